@@ -1,5 +1,5 @@
 //! The calls that allocate, and the right results.
-use crate::documents::{Refusal, Texts, use_texts};
+use crate::documents::{ParseFailure, Texts, use_texts};
 use crate::parts::use_parts;
 use crate::schemas::{USERS, use_schemas};
 use crate::tally::Tally;
@@ -26,7 +26,7 @@ pub const DOCUMENTS: [(&str, &str); 4] = [
 ];
 
 /// Inputs that are no query documents, and the columns of their errors.
-const REFUSED: [(&str, usize); 7] = [
+const REJECTED: [(&str, usize); 7] = [
     ("{ }", 3),
     ("{ a", 4),
     ("{ a;}", 4),
@@ -58,18 +58,19 @@ fn minify(alloc: Global, tally: &mut Tally) {
             tally.add(false, true);
             continue;
         };
-        let answer = minify_query(alloc, source);
-        let out_of_memory = matches!(&answer, Err(error) if Refusal::of_minifying(error).ran_out);
-        tally.add_text(&answer, minified, out_of_memory);
+        let returned = minify_query(alloc, source);
+        let out_of_memory =
+            matches!(&returned, Err(error) if ParseFailure::of_minifying(error).ran_out);
+        tally.add_text(&returned, minified, out_of_memory);
     }
 }
 
 /// Minifies an input with a lexical error.
-fn refuse_to_minify(alloc: Global, tally: &mut Tally) {
+fn reject_minifying(alloc: Global, tally: &mut Tally) {
     match String::from_str(alloc, "{ a ; }") {
         Ok(source) => match minify_query(alloc, source) {
             Ok(_) => tally.add(false, false),
-            Err(error) => Refusal::of_minifying(&error).count(tally, 5),
+            Err(error) => ParseFailure::of_minifying(&error).count(tally, 5),
         },
         Err(AllocError) => tally.add(false, true),
     }
@@ -91,14 +92,14 @@ const FIRST: [(&str, &str, &str); 2] = [
 
 /// Consumes the first definition of inputs, with names of a text type.
 fn take_definitions<'a, T: Text<'a>>(alloc: Global, tally: &mut Tally) {
-    for (text, laid_out, left) in FIRST {
+    for (text, formatted, left) in FIRST {
         match consume_definition::<T>(alloc, text) {
             Ok(first) => {
                 let (definition, rest) = first;
-                tally.add_text(&definition.to_string(alloc), laid_out, true);
+                tally.add_text(&definition.to_string(alloc), formatted, true);
                 tally.check(rest == left);
             }
-            Err(error) => tally.add(false, Refusal::of_query(&error).ran_out),
+            Err(error) => tally.add(false, ParseFailure::of_query(&error).ran_out),
         }
     }
 }
@@ -110,7 +111,7 @@ fn use_as_queries<'a, T: Text<'a>>(alloc: Global, tally: &mut Tally, texts: &Tex
 
 /// Uses inputs as query documents, with names of each text type.
 fn use_queries(alloc: Global, tally: &mut Tally) {
-    let (read, all) = (Texts::read(&DOCUMENTS), Texts::all(&DOCUMENTS, &REFUSED));
+    let (read, all) = (Texts::read(&DOCUMENTS), Texts::all(&DOCUMENTS, &REJECTED));
     use_as_queries::<&str>(alloc, tally, &all);
     use_as_queries::<String>(alloc, tally, &read);
     use_as_queries::<CowStr<'_>>(alloc, tally, &read);
@@ -121,7 +122,7 @@ pub fn make_calls(alloc: Global) -> Tally {
     let mut tally = Tally::default();
     use_queries(alloc, &mut tally);
     minify(alloc, &mut tally);
-    refuse_to_minify(alloc, &mut tally);
+    reject_minifying(alloc, &mut tally);
     take_definitions::<&str>(alloc, &mut tally);
     take_definitions::<String>(alloc, &mut tally);
     use_parts(alloc, &mut tally);

@@ -9,16 +9,16 @@ use std::fmt::Display;
 
 /// Why an input is rejected.
 #[derive(Clone, Copy)]
-pub struct Refusal {
+pub struct ParseFailure {
     /// The position of the error.
     position: Option<Pos>,
     /// Whether an allocation failed. Then there is no position.
     pub ran_out: bool,
 }
 
-impl Refusal {
+impl ParseFailure {
     fn new(cause: &Cause, position: Option<Pos>) -> Self {
-        Refusal {
+        ParseFailure {
             position,
             ran_out: matches!(cause, Cause::OutOfMemory) && position.is_none(),
         }
@@ -26,17 +26,17 @@ impl Refusal {
 
     /// Why an input is not a query document.
     pub fn of_query(error: &query::ParseError) -> Self {
-        Refusal::new(error.cause(), error.position())
+        ParseFailure::new(error.cause(), error.position())
     }
 
     /// Why an input is not a schema document.
     pub fn of_schema(error: &schema::ParseError) -> Self {
-        Refusal::new(error.cause(), error.position())
+        ParseFailure::new(error.cause(), error.position())
     }
 
     /// Why an input is not minified.
     pub fn of_minifying(error: &query::MinifyError) -> Self {
-        Refusal::new(error.cause(), error.position())
+        ParseFailure::new(error.cause(), error.position())
     }
 
     /// Counts an error that must be at this column of the first line.
@@ -49,47 +49,56 @@ impl Refusal {
 /// A document of a language, with names of a text type.
 pub trait Document<'a>: Clone + PartialEq + Display + Drop {
     /// Parses an input.
-    fn parse(alloc: Global, source: &'a str) -> Result<Self, Refusal>;
+    fn parse(alloc: Global, source: &'a str) -> Result<Self, ParseFailure>;
 
     /// Parses the rest of a stream; `None` if the depth of the stream is negative.
-    fn parse_rest(alloc: Global, stream: &mut TokenStream<'a>) -> Option<Result<Self, Refusal>>;
+    fn parse_rest(
+        alloc: Global,
+        stream: &mut TokenStream<'a>,
+    ) -> Option<Result<Self, ParseFailure>>;
 
     /// The document formatted in the default style.
-    fn laid_out(&self, alloc: Global) -> Result<String, FormatError>;
+    fn formatted(&self, alloc: Global) -> Result<String, FormatError>;
 }
 
 impl<'a, T: Text<'a>> Document<'a> for query::Document<'a, T> {
-    fn parse(alloc: Global, source: &'a str) -> Result<Self, Refusal> {
-        query::parse_query(alloc, source).map_err(|error| Refusal::of_query(&error))
+    fn parse(alloc: Global, source: &'a str) -> Result<Self, ParseFailure> {
+        query::parse_query(alloc, source).map_err(|error| ParseFailure::of_query(&error))
     }
 
-    fn parse_rest(alloc: Global, stream: &mut TokenStream<'a>) -> Option<Result<Self, Refusal>> {
+    fn parse_rest(
+        alloc: Global,
+        stream: &mut TokenStream<'a>,
+    ) -> Option<Result<Self, ParseFailure>> {
         if stream.depth() < 0 {
             return None;
         }
-        let answer = query::parse_query_from(alloc, stream);
-        Some(answer.map_err(|error| Refusal::of_query(&error)))
+        let returned = query::parse_query_from(alloc, stream);
+        Some(returned.map_err(|error| ParseFailure::of_query(&error)))
     }
 
-    fn laid_out(&self, alloc: Global) -> Result<String, FormatError> {
+    fn formatted(&self, alloc: Global) -> Result<String, FormatError> {
         self.format(alloc, &Style::default())
     }
 }
 
 impl<'a, T: Text<'a>> Document<'a> for schema::Document<'a, T> {
-    fn parse(alloc: Global, source: &'a str) -> Result<Self, Refusal> {
-        schema::parse_schema(alloc, source).map_err(|error| Refusal::of_schema(&error))
+    fn parse(alloc: Global, source: &'a str) -> Result<Self, ParseFailure> {
+        schema::parse_schema(alloc, source).map_err(|error| ParseFailure::of_schema(&error))
     }
 
-    fn parse_rest(alloc: Global, stream: &mut TokenStream<'a>) -> Option<Result<Self, Refusal>> {
+    fn parse_rest(
+        alloc: Global,
+        stream: &mut TokenStream<'a>,
+    ) -> Option<Result<Self, ParseFailure>> {
         if stream.depth() < 0 {
             return None;
         }
-        let answer = schema::parse_schema_from(alloc, stream);
-        Some(answer.map_err(|error| Refusal::of_schema(&error)))
+        let returned = schema::parse_schema_from(alloc, stream);
+        Some(returned.map_err(|error| ParseFailure::of_schema(&error)))
     }
 
-    fn laid_out(&self, alloc: Global) -> Result<String, FormatError> {
+    fn formatted(&self, alloc: Global) -> Result<String, FormatError> {
         self.format(alloc, &Style::default())
     }
 }
@@ -102,7 +111,7 @@ pub struct Texts<'a, 'b> {
     /// Inputs whose documents are shown, each with its layout.
     pub shown: &'b [(&'a str, &'b str)],
     /// Inputs that are no documents, each with the column of its error.
-    pub refused: &'b [(&'a str, usize)],
+    pub rejected: &'b [(&'a str, usize)],
 }
 
 impl<'a, 'b> Texts<'a, 'b> {
@@ -111,19 +120,19 @@ impl<'a, 'b> Texts<'a, 'b> {
         Texts {
             read: documents,
             shown: &[],
-            refused: &[],
+            rejected: &[],
         }
     }
 
     /// Inputs that are parsed and shown, and inputs that are no documents.
     pub fn all(
         documents: &'b [(&'a str, &'b str)],
-        refused: &'b [(&'a str, usize)],
+        rejected: &'b [(&'a str, usize)],
     ) -> Texts<'a, 'b> {
         Texts {
             read: documents,
             shown: documents,
-            refused,
+            rejected,
         }
     }
 }
@@ -133,7 +142,7 @@ pub fn use_texts<'a, D: Document<'a>>(alloc: Global, tally: &mut Tally, texts: &
     read_documents::<D>(alloc, tally, texts.read);
     read_streams::<D>(alloc, tally, texts.read);
     show_documents::<D>(alloc, tally, texts.shown);
-    refuse::<D>(alloc, tally, texts.refused);
+    reject::<D>(alloc, tally, texts.rejected);
 }
 
 /// Parses inputs, and formats and clones their documents.
@@ -146,12 +155,12 @@ fn read_documents<'a, D: Document<'a>>(
         match D::parse(alloc, *text) {
             Ok(document) => {
                 tally.add(true, false);
-                let answer = document.laid_out(alloc);
-                let out_of_memory = matches!(answer, Err(FormatError::OutOfMemory));
-                tally.add_text(&answer, *layout, out_of_memory);
+                let returned = document.formatted(alloc);
+                let out_of_memory = matches!(returned, Err(FormatError::OutOfMemory));
+                tally.add_text(&returned, *layout, out_of_memory);
                 tally.add_copy(&document);
             }
-            Err(refusal) => tally.add(false, refusal.ran_out),
+            Err(parse_failure) => tally.add(false, parse_failure.ran_out),
         }
     }
 }
@@ -165,17 +174,17 @@ fn show_documents<'a, D: Document<'a>>(
     for (text, layout) in texts {
         match D::parse(alloc, *text) {
             Ok(document) => tally.add_text(&document.to_string(alloc), *layout, true),
-            Err(refusal) => tally.add(false, refusal.ran_out),
+            Err(parse_failure) => tally.add(false, parse_failure.ran_out),
         }
     }
 }
 
 /// Parses inputs that are no documents, each with the column of its error.
-fn refuse<'a, D: Document<'a>>(alloc: Global, tally: &mut Tally, texts: &[(&'a str, usize)]) {
+fn reject<'a, D: Document<'a>>(alloc: Global, tally: &mut Tally, texts: &[(&'a str, usize)]) {
     for (text, column) in texts {
         match D::parse(alloc, *text) {
             Ok(_) => tally.add(false, false),
-            Err(refusal) => refusal.count(tally, *column),
+            Err(parse_failure) => parse_failure.count(tally, *column),
         }
     }
 }

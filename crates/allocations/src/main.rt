@@ -18,7 +18,7 @@ use crate::unfailing::make_unfailing_calls;
 use std::process::ExitCode;
 
 /// Prints the tally of some calls.
-fn tell(rt: &HostRuntime, calls: &str, tally: Tally) {
+fn report(rt: &HostRuntime, calls: &str, tally: Tally) {
     let Tally {
         right,
         out_of_memory,
@@ -30,8 +30,8 @@ fn tell(rt: &HostRuntime, calls: &str, tally: Tally) {
 fn main(rt: HostRuntime) -> ExitCode {
     let unfailing = make_unfailing_calls(rt.alloc());
     let allocating = make_calls(rt.alloc());
-    tell(&rt, "take no memory", unfailing);
-    tell(&rt, "allocate", allocating);
+    report(&rt, "take no memory", unfailing);
+    report(&rt, "allocate", allocating);
     let all_are_right = unfailing.wrong == 0 && allocating.wrong == 0;
     ExitCode::from(if all_are_right { 0 } else { 1 })
 }

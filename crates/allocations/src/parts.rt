@@ -1,6 +1,6 @@
 //! Parts of trees, values and documents that are made static, and the values of strings.
 use crate::calls::DOCUMENTS;
-use crate::documents::Refusal;
+use crate::documents::ParseFailure;
 use crate::schemas::USERS;
 use crate::tally::Tally;
 use graphql_parser::common::{FloatLiteral, UnquoteError, unquote_block_string, unquote_string};
@@ -19,9 +19,9 @@ fn unquote(alloc: Global, tally: &mut Tally) {
             tally.add(false, true);
             continue;
         };
-        let answer = unquote_string(alloc, text.as_str());
-        let out_of_memory = matches!(answer, Err(UnquoteError::OutOfMemory));
-        tally.add_text(&answer, value, out_of_memory);
+        let returned = unquote_string(alloc, text.as_str());
+        let out_of_memory = matches!(returned, Err(UnquoteError::OutOfMemory));
+        tally.add_text(&returned, value, out_of_memory);
     }
 }
 
@@ -103,7 +103,7 @@ fn use_parts_of_documents(alloc: Global, tally: &mut Tally) {
                     clone_parts(alloc, tally, query);
                 }
             }
-            Err(error) => tally.add(false, Refusal::of_query(&error).ran_out),
+            Err(error) => tally.add(false, ParseFailure::of_query(&error).ran_out),
         }
     }
 }
@@ -144,12 +144,12 @@ fn make_documents_static(alloc: Global, tally: &mut Tally) {
                 Ok(made) => tally.add_text(&made.to_string(alloc), layout, true),
                 Err(AllocError) => tally.check(false),
             },
-            Err(error) => tally.add(false, Refusal::of_query(&error).ran_out),
+            Err(error) => tally.add(false, ParseFailure::of_query(&error).ran_out),
         }
     }
     match parse_schema::<String>(alloc, USERS) {
         Ok(document) => make_schema_static(alloc, tally, document),
-        Err(error) => tally.add(false, Refusal::of_schema(&error).ran_out),
+        Err(error) => tally.add(false, ParseFailure::of_schema(&error).ran_out),
     }
 }
 

@@ -45,7 +45,7 @@ const SCHEMAS: [(&str, &str); 2] = [
 ];
 
 /// Inputs that are no schema documents, and the columns of their errors.
-const REFUSED: [(&str, usize); 13] = [
+const REJECTED: [(&str, usize); 13] = [
     ("", 1),
     ("type A { }", 10),
     ("type A { b: C ;", 15),
@@ -68,7 +68,7 @@ fn use_as_schemas<'a, T: Text<'a>>(alloc: Global, tally: &mut Tally, texts: &Tex
 
 /// Makes every call that allocates for schemas.
 pub fn use_schemas(alloc: Global, tally: &mut Tally) {
-    let (read, all) = (Texts::read(&SCHEMAS), Texts::all(&SCHEMAS, &REFUSED));
+    let (read, all) = (Texts::read(&SCHEMAS), Texts::all(&SCHEMAS, &REJECTED));
     use_as_schemas::<&str>(alloc, tally, &all);
     use_as_schemas::<String>(alloc, tally, &read);
 }

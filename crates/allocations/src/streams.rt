@@ -1,5 +1,5 @@
 //! Parsing from borrowed streams.
-use crate::documents::{Document, Refusal};
+use crate::documents::{Document, ParseFailure};
 use crate::tally::Tally;
 use graphql_parser::tokenizer::TokenStream;
 use std::alloc::Global;
@@ -8,16 +8,16 @@ use std::alloc::Global;
 fn count<'a, D: Document<'a>>(
     alloc: Global,
     tally: &mut Tally,
-    answer: Result<D, Refusal>,
+    returned: Result<D, ParseFailure>,
     stream: &mut TokenStream<'a>,
     layout: &str,
 ) {
-    match answer {
+    match returned {
         Ok(document) => {
             tally.check(stream.next_token() == Ok(None));
-            tally.add_text(&document.laid_out(alloc), layout, true);
+            tally.add_text(&document.formatted(alloc), layout, true);
         }
-        Err(refusal) => tally.add(false, refusal.ran_out),
+        Err(parse_failure) => tally.add(false, parse_failure.ran_out),
     }
 }
 
@@ -34,7 +34,7 @@ pub fn read_streams<'a, D: Document<'a>>(
         }
         let mut stream = TokenStream::new(*text);
         match D::parse_rest(alloc, &mut stream) {
-            Some(answer) => count::<D>(alloc, tally, answer, &mut stream, *layout),
+            Some(returned) => count::<D>(alloc, tally, returned, &mut stream, *layout),
             None => tally.check(false),
         }
     }

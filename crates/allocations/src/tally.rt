@@ -26,8 +26,8 @@ impl Tally {
     }
 
     /// Counts an output, or an error.
-    pub fn add_text<E>(&mut self, answer: &Result<String, E>, wanted: &str, out_of_memory: bool) {
-        match answer {
+    pub fn add_text<E>(&mut self, returned: &Result<String, E>, wanted: &str, out_of_memory: bool) {
+        match returned {
             Ok(text) => self.add(text.as_str() == wanted, false),
             Err(_) => self.add(false, out_of_memory),
         }

@@ -1,5 +1,5 @@
 //! The calls that take no memory, so that they succeed even if every allocation fails.
-use crate::documents::Refusal;
+use crate::documents::ParseFailure;
 use crate::tally::Tally;
 use graphql_parser::common::{FloatLiteral, Names, Number, Text};
 use graphql_parser::query::{self, MinifyError, minify_query, parse_query};
@@ -80,9 +80,9 @@ fn faults(alloc: Global) -> Option<(query::ParseError, schema::ParseError, Minif
     let query = parse_query::<&str>(alloc, "{ }").err()?;
     let schema = parse_schema::<&str>(alloc, "type A { }").err()?;
     let minified = minify_query(alloc, String::from_str(alloc, "{ a ; }").ok()?).err()?;
-    let ran_out = Refusal::of_query(&query).ran_out
-        || Refusal::of_schema(&schema).ran_out
-        || Refusal::of_minifying(&minified).ran_out;
+    let ran_out = ParseFailure::of_query(&query).ran_out
+        || ParseFailure::of_schema(&schema).ran_out
+        || ParseFailure::of_minifying(&minified).ran_out;
     if ran_out {
         return None;
     }
@@ -109,8 +109,8 @@ fn make(alloc: Global) -> Option<Made> {
 }
 
 /// Counts a result of formatting, which must be too wide.
-fn count_too_wide(tally: &mut Tally, answer: Result<String, FormatError>) {
-    match answer {
+fn count_too_wide(tally: &mut Tally, returned: Result<String, FormatError>) {
+    match returned {
         Err(error) => {
             tally.check(error == FormatError::TooWide);
             tally.check(is_shown(&error, "format error: indentation too wide"));
@@ -120,7 +120,7 @@ fn count_too_wide(tally: &mut Tally, answer: Result<String, FormatError>) {
 }
 
 /// Formats documents too wide: the levels that are open at once take 2^32 spaces or more.
-fn lay_out_too_wide(alloc: Global, tally: &mut Tally, made: &Made) {
+fn format_too_wide(alloc: Global, tally: &mut Tally, made: &Made) {
     let (nested, list) = &made.queries;
     let mut style = Style::default();
     for indent in [4294967295, 2147483648] {
@@ -134,7 +134,7 @@ fn lay_out_too_wide(alloc: Global, tally: &mut Tally, made: &Made) {
 }
 
 /// Checks why inputs are rejected.
-fn tell_faults(tally: &mut Tally, made: &Made) {
+fn report_made_faults(tally: &mut Tally, made: &Made) {
     let (query, schema, minified) = &made.faults;
     tally.check(query.position() == Some(Pos { line: 1, column: 3 }));
     tally.check(matches!(
@@ -161,7 +161,7 @@ fn tell_faults(tally: &mut Tally, made: &Made) {
 }
 
 /// Tokenizes inputs, and checks the positions.
-fn cut(tally: &mut Tally) {
+fn tokenize(tally: &mut Tally) {
     let mut stream = TokenStream::new("\"é\" b");
     tally.check((stream.offset(), stream.depth(), stream.cuts()) == (0, 0, 0));
     let string = Token {
@@ -284,9 +284,9 @@ pub fn make_unfailing_calls(alloc: Global) -> Tally {
         tally.add(false, true);
         return tally;
     };
-    lay_out_too_wide(alloc, &mut tally, &made);
-    tell_faults(&mut tally, &made);
-    cut(&mut tally);
+    format_too_wide(alloc, &mut tally, &made);
+    report_made_faults(&mut tally, &made);
+    tokenize(&mut tally);
     name_locations(&mut tally);
     make_types(alloc, &mut tally);
     name_texts(alloc, &mut tally, &made.name);

@@ -143,7 +143,7 @@ fn measure_all<'a, B: Document<'a>, O: Document<'a>>(
     let Some((document, cold)) = parse_cold::<B>(rt, source)? else {
         return Ok(false);
     };
-    let Some(written) = document.lay_out(rt.alloc()) else {
+    let Some(written) = document.formatted(rt.alloc()) else {
         eprintln!(rt; "no layout")?;
         return Ok(false);
     };

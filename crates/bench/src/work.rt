@@ -16,7 +16,7 @@ pub trait Document<'a>: Drop {
     fn parse(alloc: Global, source: &'a str) -> Result<Self, Self::Error>;
 
     /// The document formatted in the default style; `None` after an error.
-    fn lay_out(&self, alloc: Global) -> Option<String>;
+    fn formatted(&self, alloc: Global) -> Option<String>;
 }
 
 impl<'a, T: Text<'a>> Document<'a> for query::Document<'a, T> {
@@ -26,7 +26,7 @@ impl<'a, T: Text<'a>> Document<'a> for query::Document<'a, T> {
         query::parse_query(alloc, source)
     }
 
-    fn lay_out(&self, alloc: Global) -> Option<String> {
+    fn formatted(&self, alloc: Global) -> Option<String> {
         self.format(alloc, &Style::default()).ok()
     }
 }
@@ -38,7 +38,7 @@ impl<'a, T: Text<'a>> Document<'a> for schema::Document<'a, T> {
         schema::parse_schema(alloc, source)
     }
 
-    fn lay_out(&self, alloc: Global) -> Option<String> {
+    fn formatted(&self, alloc: Global) -> Option<String> {
         self.format(alloc, &Style::default()).ok()
     }
 }
@@ -47,7 +47,7 @@ impl<'a, T: Text<'a>> Document<'a> for schema::Document<'a, T> {
 #[derive(Clone, Copy, PartialEq)]
 pub enum Work {
     /// Tokenizing the input.
-    Cut,
+    Tokenize,
     /// Parsing it with borrowed names, and dropping the result.
     ParseBorrowed,
     /// Parsing it with owned names, and dropping the result.
@@ -59,18 +59,18 @@ pub enum Work {
     /// Formatting its document.
     Format,
     /// Tokenizing the formatted document.
-    CutWritten,
+    TokenizeWritten,
     /// Minifying a copy of it, which is dropped.
     Minify,
 }
 
 /// All kinds of work, in the order of a round.
 pub const ALL: [Work; 8] = [
-    Work::Cut,
+    Work::Tokenize,
     Work::ParseBorrowed,
     Work::ParseOwned,
     Work::Format,
-    Work::CutWritten,
+    Work::TokenizeWritten,
     Work::ParseAlone,
     Work::DropAlone,
     Work::Minify,
@@ -79,13 +79,13 @@ pub const ALL: [Work; 8] = [
 /// The name of a kind of work.
 pub fn name(work: Work) -> &'static str {
     match work {
-        Work::Cut => "cut",
+        Work::Tokenize => "cut",
         Work::ParseBorrowed => "parse and drop (&str)",
         Work::ParseOwned => "parse and drop (String)",
         Work::ParseAlone => "parse alone (&str)",
         Work::DropAlone => "drop (&str)",
         Work::Format => "format",
-        Work::CutWritten => "cut what format writes",
+        Work::TokenizeWritten => "cut what format writes",
         Work::Minify => "minify",
     }
 }
@@ -112,7 +112,7 @@ pub struct Sample<'a, 'b, D> {
 }
 
 /// Tokenizes an input. Returns whether the end was reached.
-fn cut(source: &str) -> bool {
+fn tokenize(source: &str) -> bool {
     if source.len() > usize::MAX / 16 {
         return false;
     }
@@ -173,11 +173,11 @@ fn run<'a, B: Document<'a>, O: Document<'a>>(
     sample: &Sample<'a, '_, B>,
 ) -> bool {
     match work {
-        Work::Cut => cut(sample.source),
+        Work::Tokenize => tokenize(sample.source),
         Work::ParseBorrowed => B::parse(alloc, sample.source).is_ok(),
         Work::ParseOwned => O::parse(alloc, sample.source).is_ok(),
-        Work::Format => sample.document.lay_out(alloc).is_some(),
-        Work::CutWritten => cut(sample.written),
+        Work::Format => sample.document.formatted(alloc).is_some(),
+        Work::TokenizeWritten => tokenize(sample.written),
         _ => false,
     }
 }

@@ -1,8 +1,8 @@
-pub mod Laid
+pub mod FormattedDocuments
 pub mod Numbers
 pub mod Options
 pub mod Streams
-pub use Laid.*
+pub use FormattedDocuments.*
 pub use Numbers.*
 pub use Options.*
 pub use Streams.*

@@ -16,12 +16,12 @@ digits : (w : List ℕ) → list_all is_ascii_digit w ≡ true → all_ascii_dig
 digits [] h = refl
 digits (c ∷ cs) h = let parts = and_parts _ _ h in and_from _ _ parts.0 (digits cs parts.1)
 
-pub number_refused : {E : Type 0} (w : List ℕ) (r : Result ℕ E) (e : E) → ParsesUnsigned 32 10 w r → r ≡ Err e
+pub number_rejected : {E : Type 0} (w : List ℕ) (r : Result ℕ E) (e : E) → ParsesUnsigned 32 10 w r → r ≡ Err e
     → list_all is_ascii_digit w ≡ true → number_of w ≡ None
-number_refused w r e h is d = refused (is_number w) refl
+number_rejected w r e h is d = rejected (is_number w) refl
   where
-    refused : (b : Bool) → is_number w ≡ b → number_of w ≡ None
-    refused false k = rw k refl
-    refused true k =
+    rejected : (b : Bool) → is_number w ≡ b → number_of w ≡ None
+    rejected false k = rw k refl
+    rejected true k =
         let parts = and_parts _ _ (and_parts _ _ (and_parts _ _ k).1).1 in
         absurd (OkIff-at_err r _ _ e (parse_digits own 32 w r h (digits w d)) is (ltb-true _ _ parts.0, ltb-true _ _ parts.1))

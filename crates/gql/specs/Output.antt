@@ -2,9 +2,9 @@
 use Rattle.std.specs.Prelude.{◌≡◌, ◌≤◌, ◌++◌, ℕ, List, [], ◌∷◌, length, Option, IfSome}
 use Rattle.std.specs.Io.KnownBytes.{Appends, IsAtEnd}
 use Rattle.std.specs.Str.{IsUtf8}
-use Rattle.graphql_core.specs.{Refusal, StyleOptions, IsMinified, IsDocumentOf, IsWrittenOf, HasNone, IsWide, HasNarrow}
+use Rattle.graphql_core.specs.{ParseFailure, StyleOptions, IsMinified, IsDocumentOf, IsWrittenOf, HasNone, IsWide, HasNarrow}
 use Rattle.graphql_core.specs.{max_length}
-use Rattle.graphql_query.specs.{queries, DefinitionTree, one_definition, IsFirstDefinition, IsMinifyRefusalOf}
+use Rattle.graphql_query.specs.{queries, DefinitionTree, one_definition, IsFirstDefinition, IsMinifyErrorOf}
 use Rattle.graphql_query.specs.Layout as query
 use Rattle.graphql_schema.specs.{schemas}
 use Rattle.graphql_schema.specs.Layout as schema
@@ -42,25 +42,25 @@ abbrev pub IsOutputOf : Command → StyleOptions → List ℕ → List ℕ → T
 IsOutputOf command style text output = (length text ≤ max_length) × Writes command style text output
 
 -- why the input is no query document, or begins with no definition of one
-abbrev pub HasNoQuery : Command → List ℕ → Refusal → Type 0
+abbrev pub HasNoQuery : Command → List ℕ → ParseFailure → Type 0
 HasNoQuery Query text e = HasNone (IsDocumentOf queries) queries text e
 HasNoQuery Schema text e = ⊥
 HasNoQuery Minify text e = ⊥
 HasNoQuery First text e = HasNone IsFirstDefinition one_definition text e
 
 -- why the input is no schema document
-abbrev pub HasNoSchema : Command → List ℕ → Refusal → Type 0
+abbrev pub HasNoSchema : Command → List ℕ → ParseFailure → Type 0
 HasNoSchema Query text e = ⊥
 HasNoSchema Schema text e = HasNone (IsDocumentOf schemas) schemas text e
 HasNoSchema Minify text e = ⊥
 HasNoSchema First text e = ⊥
 
 -- why the input is not minified: an allocation failed, the input is too long, or it has a lexical error
-abbrev pub HasBadPlace : Command → List ℕ → Refusal → Type 0
-HasBadPlace Query text e = ⊥
-HasBadPlace Schema text e = ⊥
-HasBadPlace Minify text e = IsMinifyRefusalOf text e
-HasBadPlace First text e = ⊥
+abbrev pub HasLexicalError : Command → List ℕ → ParseFailure → Type 0
+HasLexicalError Query text e = ⊥
+HasLexicalError Schema text e = ⊥
+HasLexicalError Minify text e = IsMinifyErrorOf text e
+HasLexicalError First text e = ⊥
 
 module _ {T : Type 0} (Has : List ℕ → T → Type 0) where
   abbrev pub HasOne : List ℕ → Type 0
@@ -74,11 +74,11 @@ HasDocument Minify text = ⊥
 HasDocument First text = HasOne IsFirstDefinition text
 
 -- the engine itself allocates, for the document with a first definition, or for the rest behind it
-abbrev pub TakesMemory : Command → List ℕ → Type 0
-TakesMemory Query text = ⊥
-TakesMemory Schema text = ⊥
-TakesMemory Minify text = ⊥
-TakesMemory First text = HasOne IsFirstDefinition text
+abbrev pub Allocates : Command → List ℕ → Type 0
+Allocates Query text = ⊥
+Allocates Schema text = ⊥
+Allocates Minify text = ⊥
+Allocates First text = HasOne IsFirstDefinition text
 
 -- the document of the input, or its first definition, is too wide for the style
 abbrev pub HasNoLayout : Command → StyleOptions → List ℕ → Type 0
@@ -116,17 +116,17 @@ EndsReading old new Write = ⊥
 
 -- What an error of formatting says of the input, which has at most `max_length` bytes: `OutOfMemory` comes only if
 -- there was a document to format.
-abbrev pub RefusesLayout : Command → StyleOptions → List ℕ → FormatError → Type 0
-RefusesLayout command style text TooWide = (length text ≤ max_length) × HasNoLayout command style text
-RefusesLayout command style text layout_error.OutOfMemory = (length text ≤ max_length) × HasDocument command text
+abbrev pub RejectsFormat : Command → StyleOptions → List ℕ → FormatError → Type 0
+RejectsFormat command style text TooWide = (length text ≤ max_length) × HasNoLayout command style text
+RejectsFormat command style text layout_error.OutOfMemory = (length text ≤ max_length) × HasDocument command text
 
 -- what an error of the engine says of the input
 abbrev pub EndsEngine : Command → StyleOptions → List ℕ → RunError → Type 0
 EndsEngine command style text (error.Query e) = HasNoQuery command text e
 EndsEngine command style text (error.Schema e) = HasNoSchema command text e
-EndsEngine command style text (error.Minify e) = HasBadPlace command text e
-EndsEngine command style text (Format e) = RefusesLayout command style text e
-EndsEngine command style text OutOfMemory = TakesMemory command text
+EndsEngine command style text (error.Minify e) = HasLexicalError command text e
+EndsEngine command style text (Format e) = RejectsFormat command style text e
+EndsEngine command style text OutOfMemory = Allocates command text
 EndsEngine command style text Read = ⊥
 EndsEngine command style text NotUtf8 = ⊥
 EndsEngine command style text Write = ⊥

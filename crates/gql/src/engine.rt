@@ -3,10 +3,10 @@ ghost use Rattle.std.specs.Prelude.{◌≡◌, ◌≢◌, ◌++◌, List, [], �
 ghost use Rattle.std.specs.Prelude.{IfErr};
 ghost use Rattle.std.specs.Str.{IsUtf8};
 ghost use Rattle.std.specs.Io.KnownBytes.{Keeps, Appends, Consumes, IsAtEnd};
-ghost use Rattle.graphql_core.specs.{Refusal, ParsesDocument};
+ghost use Rattle.graphql_core.specs.{ParseFailure, ParsesDocument};
 ghost use Rattle.graphql_query.specs.{queries};
 ghost use Rattle.graphql_schema.specs.{schemas};
-ghost use Rattle.gql.specs.{HasFault, IsOutputOf, HasNoQuery, HasNoSchema, HasBadPlace, RefusesLayout, ReadsAll};
+ghost use Rattle.gql.specs.{HasFault, IsOutputOf, HasNoQuery, HasNoSchema, HasLexicalError, RejectsFormat, ReadsAll};
 ghost use Rattle.gql.specs.{EndsReading, EndsEngine, WritesPart, ReadsText};
 ghost use Rattle.graphql_query.specs as query_specs;
 ghost use Rattle.graphql_schema.specs as schema_specs;
@@ -92,7 +92,7 @@ fn parsed_schema(
 
 /// Parses an input as a query document, and formats it. The document is not dropped, because the program ends soon and
 /// the drop takes a quarter of its time.
-fn query_laid_out(alloc: Global, style: &Style, text: &str) -> Result<String, RunError>
+fn format_query(alloc: Global, style: &Style, text: &str) -> Result<String, RunError>
     ensures { MatchResult result (λ s. IsOutputOf Command.Query style.now text.now (string_bytes s))
         (EndsEngine Command.Query style.now text.now) }
 {
@@ -106,8 +106,8 @@ fn query_laid_out(alloc: Global, style: &Style, text: &str) -> Result<String, Ru
     }
 }
 
-/// Parses an input as a schema document, and formats it. The document is not dropped, as in `query_laid_out`.
-fn schema_laid_out(alloc: Global, style: &Style, text: &str) -> Result<String, RunError>
+/// Parses an input as a schema document, and formats it. The document is not dropped, as in `format_query`.
+fn format_schema(alloc: Global, style: &Style, text: &str) -> Result<String, RunError>
     ensures { MatchResult result (λ s. IsOutputOf Command.Schema style.now text.now (string_bytes s))
         (EndsEngine Command.Schema style.now text.now) }
 {
@@ -154,7 +154,7 @@ fn with_rest(mut output: String, rest: &str) -> Result<String, RunError>
 }
 
 /// Formats the first definition of an input as a document, and appends the rest of the input unchanged.
-fn first_laid_out(alloc: Global, style: &Style, text: &str) -> Result<String, RunError>
+fn format_first(alloc: Global, style: &Style, text: &str) -> Result<String, RunError>
     ensures { MatchResult result (λ s. IsOutputOf Command.First style.now text.now (string_bytes s))
         (EndsEngine Command.First style.now text.now) }
 {
@@ -175,14 +175,16 @@ fn output_of(
         (EndsEngine command style.now (string_bytes text)) }
 {
     match command {
-        Command::Query => query_laid_out(alloc, style, &text),
-        Command::Schema => schema_laid_out(alloc, style, &text),
+        Command::Query => format_query(alloc, style, &text),
+        Command::Schema => format_schema(alloc, style, &text),
         Command::Minify => minified(alloc, style, text),
-        Command::First => first_laid_out(alloc, style, &text),
+        Command::First => format_first(alloc, style, &text),
     }
 }
 
 /// Reads the input to its end, and writes the output of the command. `RunError` lists the errors.
+///
+/// The tree of a document is not dropped, so its memory is not freed. A program calls this once and ends.
 pub fn run<R: Read, W: Write>(
     alloc: Global,
     command: Command,
@@ -198,18 +200,18 @@ pub fn run<R: Read, W: Write>(
     ensures read { result ≡ Err RunError.Read → HasFault reader.old.faults reader.new.faults }
     ensures not_utf8 { result ≡ Err RunError.NotUtf8
         → ReadsAll (R.remaining reader.old.device) (R.remaining reader.new.device) (λ input. ¬ IsUtf8 input) }
-    ensures query { (e : Refusal) → result ≡ Err (RunError.Query e)
+    ensures query { (e : ParseFailure) → result ≡ Err (RunError.Query e)
         → ReadsText (R.remaining reader.old.device) (R.remaining reader.new.device)
         (λ input. HasNoQuery command input e) }
-    ensures schema { (e : Refusal) → result ≡ Err (RunError.Schema e)
+    ensures schema { (e : ParseFailure) → result ≡ Err (RunError.Schema e)
         → ReadsText (R.remaining reader.old.device) (R.remaining reader.new.device)
         (λ input. HasNoSchema command input e) }
-    ensures minify { (e : Refusal) → result ≡ Err (RunError.Minify e)
+    ensures minify { (e : ParseFailure) → result ≡ Err (RunError.Minify e)
         → ReadsText (R.remaining reader.old.device) (R.remaining reader.new.device)
-        (λ input. HasBadPlace command input e) }
+        (λ input. HasLexicalError command input e) }
     ensures format { (e : FormatError) → result ≡ Err (RunError.Format e)
         → ReadsText (R.remaining reader.old.device) (R.remaining reader.new.device)
-        (λ input. RefusesLayout command style.now input e) }
+        (λ input. RejectsFormat command style.now input e) }
     // The reader reports a failure only if the run returns `Read`, and the writer only if the run returns `Write`.
     ensures reader_faults { result ≢ Err RunError.Read → reader.new.faults ≡ reader.old.faults }
     ensures writer_faults { result ≢ Err RunError.Write → writer.new.faults ≡ writer.old.faults }

@@ -65,10 +65,10 @@ impl From<AllocError> for RunError {
 /// - 1: parsing, minifying or formatting returned an error.
 /// - 2: a device failed, the input is not UTF-8, or an allocation of the engine failed.
 /// - 2 for `None`: the arguments are invalid.
-pub fn status(answer: Option<&Result<(), RunError>>) -> u8
-    ensures { result ≡ status_of (option_map (λ r. r.now) answer.entry) }
+pub fn status(returned: Option<&Result<(), RunError>>) -> u8
+    ensures { result ≡ status_of (option_map (λ r. r.now) returned.entry) }
 {
-    match answer {
+    match returned {
         Some(Ok(())) => 0,
         Some(
             Err(

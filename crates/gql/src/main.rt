@@ -68,9 +68,9 @@ fn main(rt: HostRuntime) -> ExitCode {
         let _ = eprintln!(rt; "{USAGE}");
         return ExitCode::from(status(None));
     };
-    let answer = run_command(&rt, command, &style);
-    if let Err(error) = &answer {
+    let returned = run_command(&rt, command, &style);
+    if let Err(error) = &returned {
         report(&rt, error);
     }
-    ExitCode::from(status(Some(&answer)))
+    ExitCode::from(status(Some(&returned)))
 }

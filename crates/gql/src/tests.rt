@@ -28,7 +28,7 @@ fn said(alloc: Global, words: &str) -> Result<Option<(Command, Style)>, AllocErr
 /// The result of a run, what was written, and the counts of failures.
 #[derive(Drop)]
 struct Ran {
-    answer: Result<(), RunError>,
+    returned: Result<(), RunError>,
     written: Vec<u8>,
     read_faults: u64,
     write_faults: u64,
@@ -39,11 +39,11 @@ fn run_over(alloc: Global, words: &str, source: Source<'_>, mut sink: Sink) -> R
     let (command, style) = said(alloc, words)?.ok_or("wrong words")?;
     let mut reader = Counted::new(source);
     let mut writer = Counted::new(&mut sink);
-    let answer = run(alloc, command, &style, &mut reader, &mut writer);
+    let returned = run(alloc, command, &style, &mut reader, &mut writer);
     let read_faults = reader.faults();
     let write_faults = writer.faults();
     Ok(Ran {
-        answer,
+        returned,
         written: sink.taken,
         read_faults,
         write_faults,
@@ -51,8 +51,8 @@ fn run_over(alloc: Global, words: &str, source: Source<'_>, mut sink: Sink) -> R
 }
 
 /// The message on standard error; empty for `Ok`.
-fn told(alloc: Global, answer: &Result<(), RunError>) -> Result<String, AllocError> {
-    match answer {
+fn message_of(alloc: Global, returned: &Result<(), RunError>) -> Result<String, AllocError> {
+    match returned {
         Ok(()) => Ok(String::new(alloc)),
         Err(error) => format!(in alloc; "{error}"),
     }
@@ -67,10 +67,10 @@ fn assert_ended(
     message: &str,
     code: u8,
 ) -> Result<(), Fail> {
-    assert_eq!(rt; told(alloc, &ran.answer)?.as_str(), message);
+    assert_eq!(rt; message_of(alloc, &ran.returned)?.as_str(), message);
     assert_eq!(rt; ran.written.as_slice(), written, "{message}");
-    assert_eq!(rt; status(Some(&ran.answer)), code, "{message}");
-    if let Err(error) = &ran.answer {
+    assert_eq!(rt; status(Some(&ran.returned)), code, "{message}");
+    if let Err(error) = &ran.returned {
         assert_eq!(rt; error.ends_its_line(), message.ends_with('\n'));
     }
     Ok(())

@@ -34,9 +34,9 @@ rest_at text rest d first =
 
 kept_first : (text : List ℕ) (items : List Item) (x : ParseTree) (others : List Token) → HasItems text items → (split items).tokens ≡ leaves x ++ others
     → Kept start text items (leaves x)
-kept_first text items x others (ps, stop, cut, e) parts =
+kept_first text items x others (ps, stop, tokenized, e) parts =
     subst (λ (l : List Item). Kept start text l (leaves x)) (sym e)
-    (kept ps text stop start (leaves x) others cut (ap (λ (l : List Item). (split l).tokens) (sym e) ∙ parts))
+    (kept ps text stop start (leaves x) others tokenized (ap (λ (l : List Item). (split l).tokens) (sym e) ∙ parts))
 
 -- a source is UTF-8 from any token on
 utf8_from : (text : List ℕ) (items : List Item) (n : ℕ) → IsUtf8 text → Rise text items → IsUtf8 (drop (next_place (drop n items)).offset text)
@@ -48,12 +48,12 @@ utf8_from text (i ∷ is) (suc n) utf8 rise = utf8_from text is n utf8 rise.2
 -- a source with more after its rest has the same first definition, and the same rest with more after it
 still_first : (text rest more : List ℕ) (d : DefinitionTree) → IsFirstDefinition text (d, rest) → 0 < length rest → IsUtf8 text
     → IsFirstDefinition (text ++ more) (d, rest ++ more)
-still_first text rest more d (items, (ps, stop, cut, e), x, others, (fits, parts), means, after) some utf8 =
-    let k = kept_first text items x others (ps, stop, cut, e) parts in
+still_first text rest more d (items, (ps, stop, tokenized, e), x, others, (fits, parts), means, after) some utf8 =
+    let k = kept_first text items x others (ps, stop, tokenized, e) parts in
     let on : (next_place (drop (length (leaves x)) items)).offset ≡ k.on = omega (arith, k.here) in
     let is : rest ≡ drop k.on text = rw on at after in
     let within : k.on < length text = omega (arith, some, ap length is, length-drop k.on text) in
-    let seam = subst (λ n. IsUtf8 (drop n text)) on (utf8_from text items (length (leaves x)) utf8 (items_rise text items utf8 (ps, stop, cut, e))) in
+    let seam = subst (λ n. IsUtf8 (drop n text)) on (utf8_from text items (length (leaves x)) utf8 (items_rise text items utf8 (ps, stop, tokenized, e))) in
     let (qs, end, longer, us, tokens, at) = k.again within seam more in
     let there : (next_place (drop (length (leaves x)) (items_of start qs end))).offset ≡ k.on = omega (arith, at) in
     let still : drop k.on (text ++ more) ≡ rest ++ more = drop-append-le k.on text more (omega (arith, within)) ∙ ap (λ r. r ++ more) (sym is) in

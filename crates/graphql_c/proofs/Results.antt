@@ -2,7 +2,7 @@
 use Rattle.std.proofs.Common.{◌≡◌, ◌≤◌, ◌⊎◌, ◌↔◌, ◌∙◌, ℕ, List, length, Option, None, Result, Ok, Err, MatchResult, IfOk, IsErrAnd, String, string_bytes}
 use Rattle.std.proofs.Common.{IsUtf8, inl, inr, refl, sym, ap, subst}
 use Rattle.std.specs.Global.{Global}
-use Rattle.graphql_core.specs.{Place, CauseText, IsDocumentOf, ParsesDocument, Refusal, Language, IsWrittenOf, HasNarrow, HasNone, IsWide, max_length}
+use Rattle.graphql_core.specs.{Place, CauseText, IsDocumentOf, ParsesDocument, ParseFailure, Language, IsWrittenOf, HasNarrow, HasNone, IsWide, max_length}
 use Rattle.graphql_core.specs.{cause_text, no_memory, out_of_memory}
 use Rattle.graphql_core.specs.declared.common.cause.Cause.{Cause}
 use Rattle.graphql_core.specs.declared.common.cause.Cause.TheVariants as cause
@@ -10,16 +10,16 @@ use Rattle.graphql_core.specs.declared.format.error.FormatError.{FormatError}
 use Rattle.graphql_core.specs.declared.format.error.FormatError.TheVariants.{TooWide, OutOfMemory}
 use Rattle.graphql_c.specs.declared.call_result.CallResult.{CallResult}
 use Rattle.graphql_c.specs.declared.failure.Failure.{Failure}
-use Rattle.graphql_c.specs.{status_of, layout_status, line_of, column_of, HasNumbers, Explains, refused, too_wide, not_utf8, ran_out, Fails, IsResultOf, Writes}
+use Rattle.graphql_c.specs.{status_of, layout_status, line_of, column_of, HasNumbers, Explains, rejected, too_wide, not_utf8, ran_out, Fails, IsResultOf, Writes}
 use Rattle.graphql_c.specs.{written, too_short, Finds, done, failed, Returns, IsAllowed, for_offset}
 use Rattle.graphql_core.proofs.{none_parsed, not_long, not_wide}
 
 -- ---- failures
 
-module _ {R S : Refusal → Type 0} {V W : Type 0} {text : List ℕ} (refusal : (e : Refusal) → R e → S e) (width : V → W) where
+module _ {R S : ParseFailure → Type 0} {V W : Type 0} {text : List ℕ} (failure_is : (e : ParseFailure) → R e → S e) (width : V → W) where
   -- a failure that is explained is also explained by weaker reasons
   explained : {s l c : ℕ} → Explains R V text s l c → Explains S W text s l c
-  explained (refused e utf8 h) = refused e utf8 (refusal e h)
+  explained (rejected e utf8 h) = rejected e utf8 (failure_is e h)
   explained (too_wide h) = too_wide (width h)
   explained (not_utf8 h) = not_utf8 h
   explained ran_out = ran_out
@@ -30,51 +30,51 @@ pub same_failure : {T : Type 0} (r : Result T Failure) (P : T → Type 0) (Q : F
 same_failure (Ok v) P Q f h up = absurd up
 same_failure (Err y) P Q f h up = subst Q (sym up) h
 
-pub halts : {T : Type 0} {R : Refusal → Type 0} {text : List ℕ} (r : Result T Failure) (P : T → Type 0) (S : Refusal → Type 0) (W : Type 0) (f : Failure)
-    → ((e : Refusal) → R e → S e) → Explains R ⊥ text f.status f.line f.column → IsErrAnd r (λ y. y ≡ f) → MatchResult r P (Fails S W text)
-halts {text = text} r P S W f refusal h up = same_failure r P (Fails S W text) f (explained refusal (λ never. absurd never) h) up
+pub halts : {T : Type 0} {R : ParseFailure → Type 0} {text : List ℕ} (r : Result T Failure) (P : T → Type 0) (S : ParseFailure → Type 0) (W : Type 0) (f : Failure)
+    → ((e : ParseFailure) → R e → S e) → Explains R ⊥ text f.status f.line f.column → IsErrAnd r (λ y. y ≡ f) → MatchResult r P (Fails S W text)
+halts {text = text} r P S W f failure_is h up = same_failure r P (Fails S W text) f (explained failure_is (λ never. absurd never) h) up
 
-module _ {R : Refusal → Type 0} {W : Type 0} {text : List ℕ} where
+module _ {R : ParseFailure → Type 0} {W : Type 0} {text : List ℕ} where
   -- equal numbers are explained alike
   pub explains_as : {s t l m c d : ℕ} → (s ≡ t) × (l ≡ m) × (c ≡ d) → Explains R W text t m d → Explains R W text s l c
   explains_as {t = t} {l = l} {m = m} {c = c} (p, q, r) h =
       subst (λ x. Explains R W text x l c) (sym p) (subst (λ x. Explains R W text t x c) (sym q) (subst (λ x. Explains R W text t m x) (sym r) h))
 
   -- an error with its cause and its position
-  pub refused_at : {s l n : ℕ} {c : CauseText} {p : Option Place} (e : Refusal) → IsUtf8 text → R e → c ≡ e.cause → p ≡ e.place
+  pub rejected_at : {s l n : ℕ} {c : CauseText} {p : Option Place} (e : ParseFailure) → IsUtf8 text → R e → c ≡ e.cause → p ≡ e.place
       → (s ≡ status_of c) × (l ≡ line_of p) × (n ≡ column_of p) → Explains R W text s l n
-  refused_at e utf8 h cause place (p, q, r) =
-      explains_as (p ∙ ap status_of cause, q ∙ ap line_of place, r ∙ ap column_of place) (refused e utf8 h)
+  rejected_at e utf8 h cause place (p, q, r) =
+      explains_as (p ∙ ap status_of cause, q ∙ ap line_of place, r ∙ ap column_of place) (rejected e utf8 h)
 
 -- an error that is out of memory has its status, and no position
-pub memory_numbers : {s l n : ℕ} {c : CauseText} {p : Option Place} (e : Refusal) → e ≡ no_memory → c ≡ e.cause → p ≡ e.place
+pub out_of_memory_numbers : {s l n : ℕ} {c : CauseText} {p : Option Place} (e : ParseFailure) → e ≡ no_memory → c ≡ e.cause → p ≡ e.place
     → (s ≡ status_of c) × (l ≡ line_of p) × (n ≡ column_of p) → (s ≡ status_of out_of_memory) × (l ≡ 0) × (n ≡ 0)
-memory_numbers e none cause place (p, q, r) =
-    let no_place = place ∙ ap (λ (x : Refusal). x.place) none in
-    (p ∙ ap status_of (cause ∙ ap (λ (x : Refusal). x.cause) none), q ∙ ap line_of no_place, r ∙ ap column_of no_place)
+out_of_memory_numbers e none cause place (p, q, r) =
+    let no_place = place ∙ ap (λ (x : ParseFailure). x.place) none in
+    (p ∙ ap status_of (cause ∙ ap (λ (x : ParseFailure). x.cause) none), q ∙ ap line_of no_place, r ∙ ap column_of no_place)
 
 -- only `OutOfMemory` is out of memory
-pub is_memory : (c : Cause) → cause_text c ≡ out_of_memory → c ≡ cause.OutOfMemory
-is_memory (cause.BadToken b) e = absurd cc
-is_memory (cause.UnexpectedToken kind text) e = absurd cc
-is_memory cause.UnexpectedEnd e = absurd cc
-is_memory cause.TooDeep e = absurd cc
-is_memory cause.IntOutOfRange e = absurd cc
-is_memory cause.MalformedFloat e = absurd cc
-is_memory cause.BadEscape e = absurd cc
-is_memory cause.UnknownLocation e = absurd cc
-is_memory (cause.DuplicateOperation name) e = absurd cc
-is_memory (cause.UnknownOperation name) e = absurd cc
-is_memory cause.EmptyExtension e = absurd cc
-is_memory cause.TextTooLong e = absurd cc
-is_memory cause.OutOfMemory e = refl
+pub cause_is_out_of_memory : (c : Cause) → cause_text c ≡ out_of_memory → c ≡ cause.OutOfMemory
+cause_is_out_of_memory (cause.BadToken b) e = absurd cc
+cause_is_out_of_memory (cause.UnexpectedToken kind text) e = absurd cc
+cause_is_out_of_memory cause.UnexpectedEnd e = absurd cc
+cause_is_out_of_memory cause.TooDeep e = absurd cc
+cause_is_out_of_memory cause.IntOutOfRange e = absurd cc
+cause_is_out_of_memory cause.MalformedFloat e = absurd cc
+cause_is_out_of_memory cause.BadEscape e = absurd cc
+cause_is_out_of_memory cause.UnknownLocation e = absurd cc
+cause_is_out_of_memory (cause.DuplicateOperation name) e = absurd cc
+cause_is_out_of_memory (cause.UnknownOperation name) e = absurd cc
+cause_is_out_of_memory cause.EmptyExtension e = absurd cc
+cause_is_out_of_memory cause.TextTooLong e = absurd cc
+cause_is_out_of_memory cause.OutOfMemory e = refl
 
 -- an input that parses to no document
-pub no_document : {D V W : Type 0} {l : Language D} {view : V → D} {text bytes : List ℕ} {e : Refusal} {s m n : ℕ} {c : CauseText} {p : Option Place}
+pub no_document : {D V W : Type 0} {l : Language D} {view : V → D} {text bytes : List ℕ} {e : ParseFailure} {s m n : ℕ} {c : CauseText} {p : Option Place}
     → ParsesDocument l view text (Err e) → (text ≡ bytes) × IsUtf8 bytes → c ≡ e.cause → p ≡ e.place → (s ≡ status_of c) × (m ≡ line_of p) × (n ≡ column_of p)
     → Explains (HasNone (IsDocumentOf l) l bytes) W bytes s m n
 no_document {l = l} {e = e} parses (same, utf8) cause place numbers =
-    refused_at e utf8 (subst (λ t. HasNone (IsDocumentOf l) l t e) same (none_parsed parses)) cause place numbers
+    rejected_at e utf8 (subst (λ t. HasNone (IsDocumentOf l) l t e) same (none_parsed parses)) cause place numbers
 
 -- an input that parses to a document
 pub some_document : {D V : Type 0} {l : Language D} {view : V → D} {text bytes : List ℕ} {v : V} → ParsesDocument l view text (Ok v)
@@ -85,16 +85,16 @@ some_document {l = l} {view = view} {text = text} {v = v} parses (same, utf8) = 
 )
 
 -- the formatted document, or the failure to format it
-pub laid_out : {D : Type 0} (l : Language D) (text : List ℕ) (d : D) (lay : D → List ℕ) (IsTooWide : D → Type 0)
+pub formatted : {D : Type 0} (l : Language D) (text : List ℕ) (d : D) (layout_of : D → List ℕ) (IsTooWide : D → Type 0)
     (made : Result (String Global) FormatError) (r : Result (String Global) Failure) → IsAllowed text × IsDocumentOf l text d
-    → IfOk made (λ s. string_bytes s ≡ lay d) → (made ≡ Err TooWide) ↔ IsTooWide d
+    → IfOk made (λ s. string_bytes s ≡ layout_of d) → (made ≡ Err TooWide) ↔ IsTooWide d
     → MatchResult made (λ s. r ≡ Ok s) (λ e. IsErrAnd r (HasNumbers (layout_status e) None))
-    → MatchResult r (λ s. IsAllowed text × IsWrittenOf (HasNarrow (IsDocumentOf l) IsTooWide) lay text (string_bytes s))
+    → MatchResult r (λ s. IsAllowed text × IsWrittenOf (HasNarrow (IsDocumentOf l) IsTooWide) layout_of text (string_bytes s))
     (Fails (HasNone (IsDocumentOf l) l text) (IsAllowed text × IsWide (IsDocumentOf l) IsTooWide text) text)
-laid_out l text d lay IsTooWide (Ok s) r (allowed, has) is wide same = rw same (allowed, (d, (has, not_wide (Ok s) wide.1), is))
-laid_out l text d lay IsTooWide (Err e) (Ok s) has is wide numbers = absurd numbers
-laid_out l text d lay IsTooWide (Err TooWide) (Err f) (allowed, has) is wide numbers = explains_as numbers (too_wide (allowed, (d, has, wide.0 refl)))
-laid_out l text d lay IsTooWide (Err OutOfMemory) (Err f) has is wide numbers = explains_as numbers ran_out
+formatted l text d layout_of IsTooWide (Ok s) r (allowed, has) is wide same = rw same (allowed, (d, (has, not_wide (Ok s) wide.1), is))
+formatted l text d layout_of IsTooWide (Err e) (Ok s) has is wide numbers = absurd numbers
+formatted l text d layout_of IsTooWide (Err TooWide) (Err f) (allowed, has) is wide numbers = explains_as numbers (too_wide (allowed, (d, has, wide.0 refl)))
+formatted l text d layout_of IsTooWide (Err OutOfMemory) (Err f) has is wide numbers = explains_as numbers ran_out
 
 -- the JSON of the document, or the failure to write it
 pub written_as_json : {D A : Type 0} (l : Language D) (text : List ℕ) (d : D) (write : D → List ℕ) (made : Result (String Global) A)
@@ -117,7 +117,7 @@ module _ {old new : List ℕ} {r : CallResult} where
 
 -- ---- results of calls
 
-module _ {R : Refusal → Type 0} {W : Type 0} {text old new : List ℕ} where
+module _ {R : ParseFailure → Type 0} {W : Type 0} {text old new : List ℕ} where
   failed_so : {Done : List ℕ → List ℕ → CallResult → Type 0} (f : Failure) (r : CallResult) → Fails R W text f → IsResultOf f old new r
       → Returns Done R W text old new r
   failed_so f r why (is, message) = rw is (failed (string_bytes f.message) why refl message)

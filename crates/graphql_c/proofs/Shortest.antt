@@ -1,15 +1,15 @@
 -- A minified output is at most twice as long as its input, so a buffer of this length is never too short.
 use Rattle.std.proofs.Common.{◌≡◌, ◌≢◌, ◌*◌, ◌<◌, ◌≤◌, ℕ, Bool, true, false, List, [], ◌∷◌, ◌++◌, length, ap, arith, length-append}
-use Rattle.graphql_core.specs.{items_of, Token, Meaning, Ignored, TokenOf, Piece, IsCutInto, Stands, Where, Item, past_ignored, past_token, is_too_deep}
+use Rattle.graphql_core.specs.{items_of, Token, Meaning, Ignored, TokenOf, Piece, IsTokenizedInto, IsLexicalElement, Where, Item, past_ignored, past_token, is_too_deep}
 use Rattle.graphql_core.specs.{token_then, piece_then, split, LexicalError, item_at, TokenContent, token_of, kind_number, IsMinified, start, CauseText}
 use Rattle.graphql_core.specs.{no_token, too_deep, unexpected_token, unexpected_end, int_out_of_range, malformed_float, bad_escape, unknown_location}
-use Rattle.graphql_core.specs.{duplicate_operation, unknown_operation, empty_extension, text_too_long, out_of_memory, Refusal}
+use Rattle.graphql_core.specs.{duplicate_operation, unknown_operation, empty_extension, text_too_long, out_of_memory, ParseFailure}
 use Rattle.graphql_core.specs.sources.Minified.{is_spaced, space_if, spaced_after, spaced}
 use Rattle.graphql_core.specs.declared.tokenizer.token.Kind.{Kind}
 use Rattle.graphql_core.specs.declared.tokenizer.piece.Nesting.{Nesting}
 use Rattle.graphql_core.proofs.sources.TokenPlaces.{part}
 use Rattle.graphql_c.specs.declared.call_result.CallResult.{CallResult}
-use Rattle.graphql_c.specs.{status_of, status_too_short, Explains, refused, too_wide, not_utf8, ran_out, Writes, written, too_short, Returns, done, failed}
+use Rattle.graphql_c.specs.{status_of, status_too_short, Explains, rejected, too_wide, not_utf8, ran_out, Writes, written, too_short, Returns, done, failed}
 use Rattle.graphql_c.specs.{IsMinifiedInput}
 
 -- ---- the length of a minified output
@@ -23,7 +23,7 @@ abbrev IsShort : Where → List Piece → (stop text : List ℕ) → Type 0
 IsShort w ps stop text = (before : ℕ) → length (spaced_after before (split (items_of w ps stop)).tokens) ≤ 2 * length text
 
 module _ (qs : List Piece) (stop rest bytes text : List ℕ) (w : Where) (e : text ≡ bytes ++ rest) where
-  word_short : (deep : Bool) (k : Kind) (t : Nesting) (before : ℕ) → Stands bytes (TokenOf k t) rest
+  word_short : (deep : Bool) (k : Kind) (t : Nesting) (before : ℕ) → IsLexicalElement bytes (TokenOf k t) rest
       → IsShort (past_token t bytes w) qs stop rest
       → length (spaced_after before (split (token_then deep (item_at (LexicalError too_deep) w) (item_at (TokenContent k bytes) w)
       (items_of (past_token t bytes w) qs stop))).tokens) ≤ 2 * length text
@@ -43,26 +43,26 @@ module _ (qs : List Piece) (stop rest bytes text : List ℕ) (w : Where) (e : te
         length-append bytes others,
       )
 
-  piece_short : (m : Meaning) → Stands bytes m rest → ((v : Where) → IsShort v qs stop rest)
+  piece_short : (m : Meaning) → IsLexicalElement bytes m rest → ((v : Where) → IsShort v qs stop rest)
       → (before : ℕ) → length (spaced_after before (split (piece_then m (λ v. items_of v qs stop) w bytes)).tokens) ≤ 2 * length text
   piece_short (Ignored m) st more before =
       omega (arith, more (past_ignored m (length bytes) w) before, ap length e, length-append bytes rest)
   piece_short (TokenOf k t) st more before = word_short (is_too_deep t w) k t before st (more (past_token t bytes w))
 
-short : (ps : List Piece) (text stop : List ℕ) (w : Where) → IsCutInto text ps stop → IsShort w ps stop text
+short : (ps : List Piece) (text stop : List ℕ) (w : Where) → IsTokenizedInto text ps stop → IsShort w ps stop text
 unfolding items_of
-short [] text [] w cut before = omega arith
-short [] text (b ∷ bs) w cut before = omega arith
-short (q ∷ qs) text stop w (rest, e, st, cut) before =
-    piece_short qs stop rest q.bytes text w e q.meaning st (λ v. short qs rest stop v cut) before
+short [] text [] w tokenized before = omega arith
+short [] text (b ∷ bs) w tokenized before = omega arith
+short (q ∷ qs) text stop w (rest, e, st, tokenized) before =
+    piece_short qs stop rest q.bytes text w e q.meaning st (λ v. short qs rest stop v tokenized) before
 
 spaced_short : (before : ℕ) (ts : List Token) → length (spaced ts) ≤ length (spaced_after before ts)
 spaced_short before [] = omega arith
 spaced_short before (t ∷ ts) = omega (arith, length-append (space_if (is_spaced before t)) (t.spelling ++ spaced_after t.kind ts))
 
 pub minified_length : (source text : List ℕ) → IsMinified source text → length text ≤ 2 * length source
-minified_length source text (items, (ps, stop, cut, e), end, is) =
-    let whole = short ps source stop start cut 0 in
+minified_length source text (items, (ps, stop, tokenized, e), end, is) =
+    let whole = short ps source stop start tokenized 0 in
     let same = ap (λ (l : List Item). length (spaced_after 0 (split l).tokens)) e in
     omega (arith, whole, same, spaced_short 0 (split items).tokens, ap length is)
 
@@ -84,13 +84,13 @@ cause_status empty_extension e = omega (arith, e)
 cause_status text_too_long e = omega (arith, e)
 cause_status out_of_memory e = omega (arith, e)
 
-error_status : {R : Refusal → Type 0} {W : Type 0} {text : List ℕ} {s l c : ℕ} → Explains R W text s l c → s ≢ status_too_short
-error_status (refused e utf8 h) same = cause_status e.cause same
+error_status : {R : ParseFailure → Type 0} {W : Type 0} {text : List ℕ} {s l c : ℕ} → Explains R W text s l c → s ≢ status_too_short
+error_status (rejected e utf8 h) same = cause_status e.cause same
 error_status (too_wide h) same = omega (arith, same)
 error_status (not_utf8 h) same = omega (arith, same)
 error_status ran_out same = omega (arith, same)
 
-pub never_short : {R : Refusal → Type 0} {W : Type 0} {text old new : List ℕ} {r : CallResult} → Returns (Writes (IsMinifiedInput text)) R W text old new r
+pub never_short : {R : ParseFailure → Type 0} {W : Type 0} {text old new : List ℕ} {r : CallResult} → Returns (Writes (IsMinifiedInput text)) R W text old new r
     → 2 * length text ≤ length old → r.status ≢ status_too_short
 never_short (done (written output is fits put says)) enough same = omega (arith, same, ap (λ (r : CallResult). r.status) says)
 never_short (done (too_short output is short unchanged says)) enough same = omega (arith, short, enough, minified_length _ output is.1)

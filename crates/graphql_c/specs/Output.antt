@@ -1,7 +1,7 @@
 -- The output of each call, and why a call has no output.
 use Rattle.std.specs.Prelude.{◌≡◌, ◌<◌, ◌≤◌, ◌++◌, ℕ, Bool, List, [], length, drop}
 use Rattle.std.specs.Str.{IsUtf8}
-use Rattle.graphql_core.specs.{Refusal, StyleOptions, IsDocumentOf, IsMinified, IsWrittenOf, HasNarrow, HasNone, IsWide}
+use Rattle.graphql_core.specs.{ParseFailure, StyleOptions, IsDocumentOf, IsMinified, IsWrittenOf, HasNarrow, HasNone, IsWide}
 use Rattle.graphql_core.specs.{max_length}
 use Rattle.graphql_query.specs.{queries, DefinitionTree, one_definition, IsFirstDefinition}
 use Rattle.graphql_query.specs.Layout as query
@@ -24,13 +24,13 @@ abbrev pub layout_in : ℕ → Bool → StyleOptions
 layout_in indent multiline = record { indent = indent; multiline = multiline }
 
 -- the output is the formatted document of the input, which is not too wide
-abbrev pub IsQueryLaidOut : StyleOptions → List ℕ → List ℕ → Type 0
-IsQueryLaidOut style text output =
+abbrev pub IsFormattedQuery : StyleOptions → List ℕ → List ℕ → Type 0
+IsFormattedQuery style text output =
     IsAllowed text
     × IsWrittenOf (HasNarrow (IsDocumentOf queries) (query.IsTooWide style)) (query.layout style) text output
 
-abbrev pub IsSchemaLaidOut : StyleOptions → List ℕ → List ℕ → Type 0
-IsSchemaLaidOut style text output =
+abbrev pub IsFormattedSchema : StyleOptions → List ℕ → List ℕ → Type 0
+IsFormattedSchema style text output =
     IsAllowed text
     × IsWrittenOf (HasNarrow (IsDocumentOf schemas) (schema.IsTooWide style)) (schema.layout style) text output
 
@@ -55,10 +55,10 @@ abbrev pub IsMinifiedInput : List ℕ → List ℕ → Type 0
 IsMinifiedInput text output = IsAllowed text × IsMinified text output
 
 -- why the input is no such document
-abbrev pub HasNoQuery : List ℕ → Refusal → Type 0
+abbrev pub HasNoQuery : List ℕ → ParseFailure → Type 0
 HasNoQuery = HasNone (IsDocumentOf queries) queries
 
-abbrev pub HasNoSchema : List ℕ → Refusal → Type 0
+abbrev pub HasNoSchema : List ℕ → ParseFailure → Type 0
 HasNoSchema = HasNone (IsDocumentOf schemas) schemas
 
 -- the document of the input is too wide for the style
@@ -82,5 +82,5 @@ EndsWithin text n =
     (front more : List ℕ) × (text ≡ front ++ more) × IsUtf8 front × EndsAt front n × (n < length front)
 
 -- why the source begins with no definition
-abbrev pub HasNoFirst : List ℕ → Refusal → Type 0
+abbrev pub HasNoFirst : List ℕ → ParseFailure → Type 0
 HasNoFirst = HasNone IsFirstDefinition one_definition

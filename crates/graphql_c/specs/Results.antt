@@ -4,7 +4,7 @@ use Rattle.std.specs.Prelude.{if◌then◌else◌}
 use Rattle.std.specs.Str.{IsUtf8}
 use Rattle.graphql_core.specs.{too_deep, Place, CauseText, no_token, unexpected_token, int_out_of_range}
 use Rattle.graphql_core.specs.{malformed_float, bad_escape, unknown_location, duplicate_operation, unknown_operation}
-use Rattle.graphql_core.specs.{empty_extension, unexpected_end, text_too_long, out_of_memory, Refusal}
+use Rattle.graphql_core.specs.{empty_extension, unexpected_end, text_too_long, out_of_memory, ParseFailure}
 use Rattle.graphql_core.specs.declared.format.error.FormatError.{FormatError}
 use Rattle.graphql_core.specs.declared.format.error.FormatError.TheVariants.{TooWide, OutOfMemory}
 use Rattle.graphql_c.specs.declared.call_result.CallResult.{CallResult}
@@ -64,18 +64,18 @@ put text buffer = if nat_le (length text) (length buffer) then text ++ drop (len
 -- ---- results of calls
 
 -- Why a call failed: an error of an input that is UTF-8, with its status and its position, or a status alone.
-pub data Explains (Refuses : Refusal → Type 0) (IsTooWide : Type 0) (text : List ℕ) : (status line column : ℕ)
+pub data Explains (Rejects : ParseFailure → Type 0) (IsTooWide : Type 0) (text : List ℕ) : (status line column : ℕ)
     → Type 0 where
-  refused : (e : Refusal) → IsUtf8 text → Refuses e
-      → Explains Refuses IsTooWide text (status_of e.cause) (line_of e.place) (column_of e.place)
-  too_wide : IsTooWide → Explains Refuses IsTooWide text status_too_wide 0 0
-  not_utf8 : (IsUtf8 text → ⊥) → Explains Refuses IsTooWide text status_not_utf8 0 0
+  rejected : (e : ParseFailure) → IsUtf8 text → Rejects e
+      → Explains Rejects IsTooWide text (status_of e.cause) (line_of e.place) (column_of e.place)
+  too_wide : IsTooWide → Explains Rejects IsTooWide text status_too_wide 0 0
+  not_utf8 : (IsUtf8 text → ⊥) → Explains Rejects IsTooWide text status_not_utf8 0 0
   -- an allocation failed
-  ran_out : Explains Refuses IsTooWide text (status_of out_of_memory) 0 0
+  ran_out : Explains Rejects IsTooWide text (status_of out_of_memory) 0 0
 
 -- the failure is explained
-abbrev pub Fails : (Refusal → Type 0) → Type 0 → List ℕ → Failure → Type 0
-Fails Refuses IsTooWide text f = Explains Refuses IsTooWide text f.status f.line f.column
+abbrev pub Fails : (ParseFailure → Type 0) → Type 0 → List ℕ → Failure → Type 0
+Fails Rejects IsTooWide text f = Explains Rejects IsTooWide text f.status f.line f.column
 
 -- the result for an output of this length
 abbrev pub for_output : (status length : ℕ) → CallResult
@@ -110,9 +110,9 @@ Finds IsAt old new r = (n : ℕ) × IsAt n × (new ≡ old) × (r ≡ for_offset
 
 -- The call succeeded, or its result has the status and the position of the error. Then some message is written into
 -- the buffer if it fits; which one is not specified.
-pub data Returns (Done : List ℕ → List ℕ → CallResult → Type 0) (Refuses : Refusal → Type 0) (IsTooWide : Type 0)
+pub data Returns (Done : List ℕ → List ℕ → CallResult → Type 0) (Rejects : ParseFailure → Type 0) (IsTooWide : Type 0)
     (text old new : List ℕ) (r : CallResult) : Type 0 where
-  done : Done old new r → Returns Done Refuses IsTooWide text old new r
-  failed : (message : List ℕ) → Explains Refuses IsTooWide text r.status r.line r.column
+  done : Done old new r → Returns Done Rejects IsTooWide text old new r
+  failed : (message : List ℕ) → Explains Rejects IsTooWide text r.status r.line r.column
       → r ≡ for_error r.status r.line r.column (length message) → new ≡ put message old
-      → Returns Done Refuses IsTooWide text old new r
+      → Returns Done Rejects IsTooWide text old new r

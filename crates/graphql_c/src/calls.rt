@@ -3,12 +3,12 @@ ghost use Rattle.std.specs.Prelude.{◌≡◌, ◌<◌, ◌≤◌, ◌++◌, ℕ
 ghost use Rattle.std.specs.Prelude.{IfOk, IfSome, MatchResult, IsErrAnd};
 ghost use Rattle.std.specs.Str.{IsUtf8};
 ghost use Rattle.graphql_core.specs.{IsDocumentOf, max_length, out_of_memory};
-ghost use Rattle.graphql_query.specs.{queries, IsMinifyRefusalOf};
+ghost use Rattle.graphql_query.specs.{queries, IsMinifyErrorOf};
 ghost use Rattle.graphql_query.specs.Tree as query;
 ghost use Rattle.graphql_schema.specs.{schemas};
 ghost use Rattle.graphql_schema.specs.Views as schema;
-ghost use Rattle.graphql_c.specs.{Fails, HasNumbers, layout_status, layout_in, status_of, IsAllowed, IsQueryLaidOut};
-ghost use Rattle.graphql_c.specs.{IsSchemaLaidOut, IsQueryChecked, IsSchemaChecked, IsQueryJson, IsSchemaJson};
+ghost use Rattle.graphql_c.specs.{Fails, HasNumbers, layout_status, layout_in, status_of, IsAllowed, IsFormattedQuery};
+ghost use Rattle.graphql_c.specs.{IsFormattedSchema, IsQueryChecked, IsSchemaChecked, IsQueryJson, IsSchemaJson};
 ghost use Rattle.graphql_c.specs.{IsMinifiedInput, HasNoQuery, HasNoSchema, HasNoFirst, IsQueryTooWide};
 ghost use Rattle.graphql_c.specs.{IsSchemaTooWide, EndsAt, EndsWithin};
 
@@ -72,7 +72,7 @@ fn query_of(alloc: Global, bytes: &[u8]) -> Result<QueryDocument<'_, &str>, Fail
 {
     match parse_query(alloc, text_of(alloc, bytes)?) {
         Ok(document) => Ok(document),
-        Err(error) => Err(Failure::refused(alloc, error.cause(), error.position(), &error)),
+        Err(error) => Err(Failure::rejected(alloc, error.cause(), error.position(), &error)),
     }
 }
 
@@ -84,13 +84,13 @@ fn schema_of(alloc: Global, bytes: &[u8]) -> Result<SchemaDocument<'_, &str>, Fa
 {
     match parse_schema(alloc, text_of(alloc, bytes)?) {
         Ok(document) => Ok(document),
-        Err(error) => Err(Failure::refused(alloc, error.cause(), error.position(), &error)),
+        Err(error) => Err(Failure::rejected(alloc, error.cause(), error.position(), &error)),
     }
 }
 
 /// Parses these bytes as a query document, and formats it.
-pub fn query_laid_out(alloc: Global, bytes: &[u8], style: &Style) -> Result<String, Failure>
-    ensures { MatchResult result (λ s. IsQueryLaidOut style.now bytes.now (string_bytes s))
+pub fn format_query(alloc: Global, bytes: &[u8], style: &Style) -> Result<String, Failure>
+    ensures { MatchResult result (λ s. IsFormattedQuery style.now bytes.now (string_bytes s))
         (Fails (HasNoQuery bytes.now) (IsQueryTooWide style.now bytes.now) bytes.now) }
 {
     let document = query_of(alloc, bytes)?;
@@ -98,8 +98,8 @@ pub fn query_laid_out(alloc: Global, bytes: &[u8], style: &Style) -> Result<Stri
 }
 
 /// Parses these bytes as a schema document, and formats it.
-pub fn schema_laid_out(alloc: Global, bytes: &[u8], style: &Style) -> Result<String, Failure>
-    ensures { MatchResult result (λ s. IsSchemaLaidOut style.now bytes.now (string_bytes s))
+pub fn format_schema(alloc: Global, bytes: &[u8], style: &Style) -> Result<String, Failure>
+    ensures { MatchResult result (λ s. IsFormattedSchema style.now bytes.now (string_bytes s))
         (Fails (HasNoSchema bytes.now) (IsSchemaTooWide style.now bytes.now) bytes.now) }
 {
     let document = schema_of(alloc, bytes)?;
@@ -145,14 +145,14 @@ pub fn schema_as_json(alloc: Global, bytes: &[u8]) -> Result<String, Failure>
 /// The tokens of these bytes, with a space only between two that are not punctuators, and between a number and `...`.
 pub fn minified(alloc: Global, bytes: &[u8]) -> Result<String, Failure>
     ensures { MatchResult result (λ s. IsMinifiedInput bytes.now (string_bytes s))
-        (Fails (IsMinifyRefusalOf bytes.now) ⊥ bytes.now) }
+        (Fails (IsMinifyErrorOf bytes.now) ⊥ bytes.now) }
 {
     let Ok(source) = String::from_str(alloc, text_of(alloc, bytes)?) else {
         return Err(Failure::out_of_memory(alloc));
     };
     match minify_query(alloc, source) {
         Ok(output) => Ok(output),
-        Err(error) => Err(Failure::refused(alloc, error.cause(), error.position(), &error)),
+        Err(error) => Err(Failure::rejected(alloc, error.cause(), error.position(), &error)),
     }
 }
 
@@ -195,7 +195,7 @@ fn end_of(alloc: Global, text: &str) -> Result<usize, Failure>
 {
     match consume_definition::<&str>(alloc, text) {
         Ok(first) => Ok(text.len() - first.1.len()),
-        Err(error) => Err(Failure::refused(alloc, error.cause(), error.position(), &error)),
+        Err(error) => Err(Failure::rejected(alloc, error.cause(), error.position(), &error)),
     }
 }
 

@@ -62,7 +62,7 @@ impl Failure {
     }
 
     /// An error with this cause at this position, and its message.
-    pub fn refused<E: Display>(
+    pub fn rejected<E: Display>(
         alloc: Global,
         cause: &Cause,
         position: Option<Pos>,

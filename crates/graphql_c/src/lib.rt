@@ -7,8 +7,9 @@
 
 ghost use Rattle.std.specs.Prelude.{◌≡◌, ◌≢◌, ◌⊎◌, ◌*◌, ◌≤◌, ℕ, length};
 ghost use Rattle.graphql_core.specs.{max_length, out_of_memory};
-ghost use Rattle.graphql_query.specs.{IsMinifyRefusalOf};
-ghost use Rattle.graphql_c.specs.{Returns, Writes, Finds, layout_in, IsQueryLaidOut, IsSchemaLaidOut, IsQueryChecked};
+ghost use Rattle.graphql_query.specs.{IsMinifyErrorOf};
+ghost use Rattle.graphql_c.specs.{Returns, Writes, Finds, layout_in, IsFormattedQuery, IsFormattedSchema};
+ghost use Rattle.graphql_c.specs.{IsQueryChecked};
 ghost use Rattle.graphql_c.specs.{IsSchemaChecked, IsQueryJson, IsSchemaJson, IsMinifiedInput, HasNoQuery, HasNoSchema};
 ghost use Rattle.graphql_c.specs.{HasNoFirst, IsQueryTooWide, IsSchemaTooWide, EndsAt, EndsWithin, for_offset};
 ghost use Rattle.graphql_c.specs.{status_of, status_name, status_too_short, with_zeros};
@@ -34,11 +35,11 @@ pub extern "C" fn graphql_proved_format_query_nonnull(
     multiline: bool,
     out: &mut [u8],
 ) -> CallResult
-    ensures { Returns (Writes (IsQueryLaidOut (layout_in indent multiline) text.now)) (HasNoQuery text.now)
+    ensures { Returns (Writes (IsFormattedQuery (layout_in indent multiline) text.now)) (HasNoQuery text.now)
         (IsQueryTooWide (layout_in indent multiline) text.now) text.now out.old out.new result }
 {
     let style = calls::style_in(indent, multiline);
-    of_output(out, calls::query_laid_out(alloc, text, &style))
+    of_output(out, calls::format_query(alloc, text, &style))
 }
 
 /// Formats a schema document (section 3) into `out`, with `indent` spaces for each level. If `multiline` is true, each
@@ -51,11 +52,11 @@ pub extern "C" fn graphql_proved_format_schema_nonnull(
     multiline: bool,
     out: &mut [u8],
 ) -> CallResult
-    ensures { Returns (Writes (IsSchemaLaidOut (layout_in indent multiline) text.now)) (HasNoSchema text.now)
+    ensures { Returns (Writes (IsFormattedSchema (layout_in indent multiline) text.now)) (HasNoSchema text.now)
         (IsSchemaTooWide (layout_in indent multiline) text.now) text.now out.old out.new result }
 {
     let style = calls::style_in(indent, multiline);
-    of_output(out, calls::schema_laid_out(alloc, text, &style))
+    of_output(out, calls::format_schema(alloc, text, &style))
 }
 
 /// Writes the tokens of the input into `out`, with a space only between two that are not punctuators, and between a
@@ -66,7 +67,7 @@ pub extern "C" fn graphql_proved_minify_nonnull(
     text: &[u8],
     out: &mut [u8],
 ) -> CallResult
-    ensures returned { Returns (Writes (IsMinifiedInput text.now)) (IsMinifyRefusalOf text.now) ⊥ text.now
+    ensures returned { Returns (Writes (IsMinifiedInput text.now)) (IsMinifyErrorOf text.now) ⊥ text.now
         out.old out.new result }
 
     // A buffer of twice the length of the input is never too short.

@@ -4,7 +4,7 @@ use Rattle.std.proofs.Common.{inl, inr, refl, sym, ap, subst, append_assoc, leng
 use Rattle.std.proofs.lemmas.Bool.{cases_Bool, and_parts}
 use Rattle.std.proofs.lemmas.Bool.Decides.{nat_tests}
 use Rattle.graphql_core.specs.{Token, Expr, Sym, ParseTree, Grammar, leaves, peek, Derives, lax, decides, is_ll1, is_tight, is_productive, has_samples, Takes}
-use Rattle.graphql_core.specs.{Fails, Fault, Reason, StopsBefore, index_of, IsLeast, IsExact, IsExactFor, AnswersLeast, RefusesTokens, written, StopsFor}
+use Rattle.graphql_core.specs.{Fails, Fault, Reason, StopsBefore, index_of, IsLeast, IsExact, IsExactFor, ReturnsFirstError, RejectsTokens, written, StopsFor}
 use Rattle.graphql_core.specs.{GivesBy, Items, reading, Language, numbered, TakesExactly, StopsAtFirst, HaltsAtFirst, ReturnsDerived, IsReadable}
 use Rattle.graphql_core.proofs.grammar.{grammar_exact}
 use Rattle.graphql_core.proofs.rules.{exact_for}
@@ -16,7 +16,7 @@ pub record ReadsFor (g h : Grammar) (to : ParseTree → ParseTree) (e : Expr) : 
   pub longest : (ts us : List Token) (x : ParseTree) → Takes h e ts x us → (y : ParseTree) (more : List Token) → Derives (lax g) e (leaves x ++ more) y
       → peek more ≡ peek us → more ≡ []
   pub parts : (ts us : List Token) (why : Reason) → Fails h e ts why us → (front : List Token) × (ts ≡ front ++ us)
-  pub least : AnswersLeast g h e
+  pub least : ReturnsFirstError g h e
 
 module _ (g h : Grammar) (to : ParseTree → ParseTree) (e : Expr) (reads : ReadsFor g h to e) (old new : Items) where
   stops_before : (x : ParseTree) → Takes h e old.tokens x new.tokens → StopsBefore (lax g) e (leaves x) new.tokens
@@ -65,7 +65,7 @@ sampled_at g (suc n) k samples below = elim (cases_Bool (k == n)) [
 -- ---- readers of symbols
 
 -- a grammar that is read as it is written
-reads_itself : (g : Grammar) → is_ll1 g.rows ≡ true → is_tight g.rows ≡ true → is_productive g ≡ true → RefusesTokens g → (e : Expr)
+reads_itself : (g : Grammar) → is_ll1 g.rows ≡ true → is_tight g.rows ≡ true → is_productive g ≡ true → RejectsTokens g → (e : Expr)
     → decides g.rows e ≡ true → has_samples g e ≡ true → ReadsFor g g (λ x. x) e
 reads_itself g ok tight full tokens e d s =
     let exact : IsExact g e = grammar_exact g ok full e d s in
@@ -76,7 +76,7 @@ reads_itself g ok tight full tokens e d s =
       least = grammar_least g ok full tight e d s tokens;
     }
 
-pub symbol_derived : (g : Grammar) → is_ll1 g.rows ≡ true → is_tight g.rows ≡ true → is_productive g ≡ true → RefusesTokens g
+pub symbol_derived : (g : Grammar) → is_ll1 g.rows ≡ true → is_tight g.rows ≡ true → is_productive g ≡ true → RejectsTokens g
     → (n : ℕ) → sampled_below g n ≡ true → (k : ℕ) → k < n → (old new : Items) → {A E : Type 0} (reason : E → Option Reason)
     (P : A → ParseTree → Type 0) (v : Result A E) → GivesBy reason g (Sym k) old new P v → ReturnsDerived g (Sym k) old new reason P v
 symbol_derived g ok tight full tokens n samples k below =
@@ -92,7 +92,7 @@ reads_language l r e d s =
       sound = exact.sound;
       longest = λ ts us x takes y more derives next. (exact.longest ts us x takes y more derives next).1;
       parts = λ ts us why fails. let first = exact.earliest ts us why fails in (first.front, first.parts);
-      least = least_for l.grammar l.factored_rows l.changes r.each r.each_lax r.ll1 r.tight r.productive r.refuses_tokens e d s;
+      least = least_for l.grammar l.factored_rows l.changes r.each r.each_lax r.ll1 r.tight r.productive r.rejects_tokens e d s;
     }
 
 pub symbol_derived_for : {D : Type 0} (l : Language D) → IsReadable l → (n : ℕ) → sampled_below (reading l) n ≡ true → (k : ℕ) → k < n

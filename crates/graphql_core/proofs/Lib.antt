@@ -26,11 +26,11 @@ unfoldable pub use ByGrammar.*
 pub use grammar.{same_spelling-true, sees-apart, sees-parts, sees-within, take-or_fail}
 pub use rules.{IsFactored-head, IsFactored-prefix, IsFactored-second, IsFactored-sides, IsFactored-symbols, alone_before}
 pub use rules.{each_is_factored, tests_alike, unchanged_then, with_more}
-pub use lexical.{Sees, cut_of, front_sees, has_items, items_unique, no_front, stands_front}
-pub use sources.{stands_before, token_follows}
+pub use lexical.{Sees, tokenization_of, front_sees, has_items, items_unique, no_front, element_at_front}
+pub use sources.{token_before, token_follows}
 pub use sources.{EndsInMark, HasItemAt, Rise, TokensKept, boundary, ends_after, holds_first, holds_on, items_rise}
 pub use sources.{more_items, one_minified, one_position, other_position, place_after, prefix, rise_on, same_position}
-pub use sources.{stands_before_same, tokens_kept}
+pub use sources.{element_before_same, tokens_kept}
 pub use readers.{BegunBy, FailsUnseen, IsSide, Leads, Pushes, Stops-after, Stops-before, Stops-node, Stops-turn}
 pub use readers.{TakesNone, Turns, Turns-more, Turns-start, Turns-stop, adds_more, adds_none, adds_one, adds_reserved}
 pub use readers.{after, before, begun, consumed, each_means, fails, fails_last, fewer, fills, gives_error_by}
@@ -40,14 +40,14 @@ pub use readers.{same_text_spelling, sees_both, sees_neither, side_first, side_i
 pub use readers.{side_right, side_second, some_given, some_taken, spelling_differs, stops_one, taken_both, takes_none}
 pub use readers.{takes_one, takes_some, takes_token, there, took, turn_appends, turn_fails, unseen_either, unseen_one}
 pub use readers.{unseen_symbol, unseen_then, whole}
-pub use values.{Anything, ByValues, DependsOnValues, HasRoom, IsSame, Left, Nests, OfItsOwn, SameLeaf, SameTrees}
+pub use values.{Anything, ByValues, DependsOnValues, HasCapacity, IsSame, Left, Nests, OfItsOwn, SameLeaf, SameTrees}
 pub use values.{Within, accepted_same, all_turns, directives_printable, directives_same, document_alike, each_alike}
 pub use values.{each_of_both, each_same, enclosed_alike, enclosed_printable, enclosed_same, joined_same, leaf_except}
 pub use values.{leaf_name, left_tree, minified_document, nests_before, nests_open, nests_tree}
 pub use values.{optional_arguments_printable, optional_arguments_same, optional_default_printable}
 pub use values.{optional_default_same, optional_list_same, optional_same, own_text, parsed_alike, part_printable}
-pub use values.{past_tree, right_tree, room_back, room_both, room_first, room_leaf, room_more, room_node, room_nothing}
-pub use values.{room_second, room_stop, same_block, same_both, same_first, same_more, same_node, same_second}
+pub use values.{past_tree, right_tree, capacity_back, capacity_both, capacity_first, capacity_leaf, capacity_more, capacity_node, capacity_nothing}
+pub use values.{capacity_second, capacity_stop, same_block, same_both, same_first, same_more, same_node, same_second}
 pub use values.{same_values_document, some_printable, source_document, spelling_same, there_same, type_printable}
 pub use values.{type_same}
 pub use layouts.{Rises, all_counted, all_hold, all_seen, and_alone, and_last, and_part, arguments_bounded}
@@ -65,10 +65,10 @@ pub use round_trip.{gap_back, in_braces_back, in_parentheses_back, lift_back, ma
 pub use round_trip.{name_word, node_back, not_listed, nothing_back, open_back, optional_default_back}
 pub use round_trip.{punctuator_back, quoted_means, quoted_takes, quoted_word, same_parts, second_back, seven_back}
 pub use round_trip.{six_back, some_back, spaces_blank, stop_back, then_gap, three_back, type_back, word_back}
-pub use documents.{AreItems, IsGrown, RefusesAlike, as_error, begins_at, by_fault, computed, cut_first, exact}
+pub use documents.{AreItems, IsGrown, RejectsAlike, as_error, begins_at, by_fault, computed, tokenized_first, exact}
 pub use documents.{exact_lax, exit, from_stream, gives_lifted, halts_before, halts_led, has_none, later_document_of}
 pub use documents.{later_parse_tree, least_is_first, least_stop, node_lacks, node_passes, not_long, not_wide}
-pub use documents.{node_refused, node_stops, none_goes_on, none_parsed, none_there, one_cause, one_cause_alike}
-pub use documents.{one_each, one_least, only_memory, parsed, read_left, read_refused, read_stopped, read_whole}
-pub use documents.{reads_led, refusal, refused, shared_rows, stops_led, stream_parsed, turn_done, turn_halts}
+pub use documents.{node_rejected, node_stops, none_goes_on, none_parsed, none_there, one_cause, one_cause_alike}
+pub use documents.{one_each, one_least, only_out_of_memory, parsed, read_left, read_rejected, read_stopped, read_whole}
+pub use documents.{reads_led, parse_failure, rejected, shared_rows, stops_led, stream_parsed, turn_done, turn_halts}
 pub use documents.{unread, unseen, valueless_alike, valueless_not}

@@ -3,8 +3,8 @@ pub mod Whole
 pub mod Faults
 pub mod FaultsAlike
 pub mod Parsing
-pub mod Refusals
-pub mod Refusing
+pub mod ParseFailures
+pub mod Rejecting
 pub mod Outputs
 pub mod RoundTrip
 pub mod Computed
@@ -15,8 +15,8 @@ unfoldable pub use Whole.*
 unfoldable pub use Faults.*
 unfoldable pub use FaultsAlike.*
 unfoldable pub use Parsing.*
-unfoldable pub use Refusals.*
-unfoldable pub use Refusing.*
+unfoldable pub use ParseFailures.*
+unfoldable pub use Rejecting.*
 unfoldable pub use Outputs.*
 unfoldable pub use RoundTrip.*
 unfoldable pub use Computed.*

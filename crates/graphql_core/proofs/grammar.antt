@@ -1,6 +1,6 @@
 pub mod Classes
 pub mod Items
-pub mod Answering
+pub mod ReaderOutcomes
 pub mod Sound
 pub mod Complete
 pub mod Deterministic
@@ -15,7 +15,7 @@ pub mod Tight
 pub mod Stopping
 unfoldable pub use Classes.*
 unfoldable pub use Items.*
-unfoldable pub use Answering.*
+unfoldable pub use ReaderOutcomes.*
 unfoldable pub use Sound.*
 unfoldable pub use Complete.*
 unfoldable pub use Deterministic.*

@@ -6,7 +6,7 @@ pub mod FrontFits
 pub mod FrontIsPiece
 pub mod FirstBytes
 pub mod Spaces
-pub mod OneCut
+pub mod OneTokenization
 pub mod Elements
 pub mod CharacterClasses
 pub mod Lanes
@@ -23,7 +23,7 @@ unfoldable pub use FrontFits.*
 unfoldable pub use FrontIsPiece.*
 unfoldable pub use FirstBytes.*
 unfoldable pub use Spaces.*
-unfoldable pub use OneCut.*
+unfoldable pub use OneTokenization.*
 unfoldable pub use Elements.*
 unfoldable pub use CharacterClasses.*
 unfoldable pub use Lanes.*

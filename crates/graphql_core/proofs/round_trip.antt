@@ -1,11 +1,11 @@
-pub mod ReadingBack
+pub mod ParsingBack
 pub mod LeavesBack
 pub mod ListsBack
 pub mod TypesBack
 pub mod ValuesBack
 pub mod DirectivesBack
 pub mod LinesBack
-unfoldable pub use ReadingBack.*
+unfoldable pub use ParsingBack.*
 unfoldable pub use LeavesBack.*
 unfoldable pub use ListsBack.*
 unfoldable pub use TypesBack.*

@@ -4,7 +4,7 @@ pub mod Ordered
 pub mod Views
 pub mod TreesAlike
 pub mod NestingDepth
-pub mod BracketRoom
+pub mod BracketCapacity
 pub mod OwnTexts
 pub mod Leaves
 pub mod Printable
@@ -15,7 +15,7 @@ unfoldable pub use Ordered.*
 unfoldable pub use Views.*
 unfoldable pub use TreesAlike.*
 unfoldable pub use NestingDepth.*
-unfoldable pub use BracketRoom.*
+unfoldable pub use BracketCapacity.*
 unfoldable pub use OwnTexts.*
 unfoldable pub use Leaves.*
 unfoldable pub use Printable.*

@@ -1,8 +1,8 @@
 pub mod Causes
 pub mod Source
-pub mod Refusals
+pub mod ParseFailures
 pub mod Minified
 unfoldable pub use Causes.*
 unfoldable pub use Source.*
-unfoldable pub use Refusals.*
+unfoldable pub use ParseFailures.*
 unfoldable pub use Minified.*

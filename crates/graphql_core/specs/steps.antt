@@ -1,9 +1,9 @@
 pub mod Ahead
-pub mod Answers
+pub mod ReaderResults
 pub mod BlockBytes
 pub mod BlockShape
 pub mod Constness
-pub mod Cut
+pub mod ComputedItems
 pub mod Escapes
 pub mod Following
 pub mod FormatterSink
@@ -21,17 +21,17 @@ pub mod Punctuators
 pub mod Quoted
 pub mod ReadErrors
 pub mod Readable
-pub mod Refusing
+pub mod Rejecting
 pub mod Sources
 pub mod Spans
 pub mod StringSink
 pub mod Unescaped
 unfoldable pub use Ahead.*
-unfoldable pub use Answers.*
+unfoldable pub use ReaderResults.*
 unfoldable pub use BlockBytes.*
 unfoldable pub use BlockShape.*
 unfoldable pub use Constness.*
-unfoldable pub use Cut.*
+unfoldable pub use ComputedItems.*
 unfoldable pub use Escapes.*
 unfoldable pub use Following.*
 unfoldable pub use FormatterSink.*
@@ -49,7 +49,7 @@ unfoldable pub use Punctuators.*
 unfoldable pub use Quoted.*
 unfoldable pub use ReadErrors.*
 unfoldable pub use Readable.*
-unfoldable pub use Refusing.*
+unfoldable pub use Rejecting.*
 unfoldable pub use Sources.*
 unfoldable pub use Spans.*
 unfoldable pub use StringSink.*

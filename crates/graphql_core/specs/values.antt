@@ -1,6 +1,6 @@
 pub mod Values
 pub mod TreeDepth
-pub mod Lawful
+pub mod WellFormed
 pub mod Leaves
 pub mod Grammar
 pub mod Parts
@@ -9,7 +9,7 @@ pub mod Printable
 pub mod ValueViews
 unfoldable pub use Values.*
 unfoldable pub use TreeDepth.*
-unfoldable pub use Lawful.*
+unfoldable pub use WellFormed.*
 unfoldable pub use Leaves.*
 unfoldable pub use Grammar.*
 unfoldable pub use Parts.*

@@ -11,7 +11,7 @@ use Rattle.graphql_core.specs.declared.tokenizer.token.Kind.{Kind}
 use Rattle.graphql_core.specs.declared.tokenizer.token.Kind.TheVariants.{BlockString}
 use Rattle.graphql_core.specs.declared.tokenizer.element.ElementKind.{ElementKind}
 use Rattle.graphql_core.specs.declared.tokenizer.element.ElementKind.TheVariants as element
-use Rattle.graphql_core.specs.{is_in_line, Meaning, Ignored, TokenOf, Stands}
+use Rattle.graphql_core.specs.{is_in_line, Meaning, Ignored, TokenOf, IsLexicalElement}
 use Rattle.graphql_core.specs.lexical.Elements.{element_kind, ignored_kind}
 use Rattle.graphql_core.specs.lexical.Lexical.{Piece as Element, ignored_tab, ignored_line_feed, ignored_carriage_return, ignored_space, ignored_comma}
 use Rattle.graphql_core.specs.lexical.Lexical.{ignored_byte_order_mark, comment_at_end, comment_feed, comment_return_feed, comment_return}
@@ -57,7 +57,7 @@ a_line line end all white = (
 )
 
 -- ignored text of the kind of a comment, trimmed
-a_comment : {bytes : List ℕ} {m : Move} {rest : List ℕ} → Stands bytes (Ignored m) rest → ignored_kind bytes ≡ element.Comment
+a_comment : {bytes : List ℕ} {m : Move} {rest : List ℕ} → IsLexicalElement bytes (Ignored m) rest → ignored_kind bytes ≡ element.Comment
     → IsSpelling IsEither piece.Comment (trimmed bytes)
 a_comment ignored_tab h = absurd cc
 a_comment ignored_line_feed h = absurd cc

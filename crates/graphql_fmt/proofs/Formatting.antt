@@ -2,7 +2,7 @@
 use Rattle.std.proofs.Common.{◌≡◌, ◌≤◌, ◌<◌, ◌⊎◌, ◌↔◌, ℕ, true, false, IsTrue, List, length, Result, Ok, Err, IfOk, IfErr}
 use Rattle.std.proofs.Common.{IsErrOf, inl, inr, refl, sym, ap, ◌∙◌, subst, arith}
 use Rattle.std.proofs.lemmas.Bool.{cases_lt}
-use Rattle.graphql_core.specs.{Refusal, max_length, no_memory, IsDocumentOf, IsReadBack, ParsesDocument, Stands}
+use Rattle.graphql_core.specs.{ParseFailure, max_length, no_memory, IsDocumentOf, ParsesBackTo, ParsesDocument, IsLexicalElement}
 use Rattle.graphql_core.specs.documents.Languages as languages
 use Rattle.graphql_core.proofs.{DependsOnValues, false≢true, has_items, same_values_document}
 use Rattle.graphql_query.specs.{queries}
@@ -22,14 +22,14 @@ use Rattle.graphql_fmt.proofs.SameTrees.{trees_kept}
 
 -- the document depends only on the tokens
 pub same_document : {D : Type 0} (l : languages.Language D) → DependsOnValues l → (source text : List ℕ) (ks : List Kept)
-    (d : D) → HasKept Stands source ks → HasKept Stands text ks → IsDocumentOf l source d → IsReadBack l text d
+    (d : D) → HasKept IsLexicalElement source ks → HasKept IsLexicalElement text ks → IsDocumentOf l source d → ParsesBackTo l text d
 same_document l p source text ks d mine theirs (items, has, doc) =
     let others = has_items text in
     let (values, end) = same_values source text items _ ks mine theirs has others in
     same_values_document l p source text items _ has others (end doc.2) values d (items, has, doc)
 
-kept_document : {D : Type 0} (l : languages.Language D) → DependsOnValues l → (source text : List ℕ) → KeepsIn Stands source text
-    → (d : D) → IsDocumentOf l source d → IsReadBack l text d
+kept_document : {D : Type 0} (l : languages.Language D) → DependsOnValues l → (source text : List ℕ) → KeepsIn IsLexicalElement source text
+    → (d : D) → IsDocumentOf l source d → ParsesBackTo l text d
 kept_document l p source text keeps d (items, has, doc) =
     let (ks, mine) = has_kept source items has doc.2 in
     same_document l p source text ks d mine (keeps ks mine) (items, has, doc)
@@ -54,7 +54,7 @@ module _ {D V : Type 0} (l : languages.Language D) {view : V → D} (source : Li
   pub parsed : {v : V} → ParsesDocument l view source (Ok v) → IsTrue true ↔ Parses l source
   parsed {v} parses = (λ yes. (short parses, (view v, parses.sound)), λ h. refl)
 
-  pub not_parsed : {e : Refusal} → ParsesDocument l view source (Err e) → (e ≡ no_memory → ⊥) → IsTrue false ↔ Parses l source
+  pub not_parsed : {e : ParseFailure} → ParsesDocument l view source (Err e) → (e ≡ no_memory → ⊥) → IsTrue false ↔ Parses l source
   not_parsed parses other =
       (λ yes. absurd (false≢true yes), λ (within, (d, derived)). absurd (other (parses.complete d within derived)))
 

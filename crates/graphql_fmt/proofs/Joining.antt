@@ -10,7 +10,7 @@ use Rattle.graphql_core.specs.declared.tokenizer.piece.Move.TheVariants.{Over, D
 use Rattle.graphql_core.specs.declared.tokenizer.piece.Nesting.TheVariants.{Unchanged}
 use Rattle.graphql_core.specs.declared.tokenizer.token.Kind.{Kind}
 use Rattle.graphql_core.specs.declared.tokenizer.token.Kind.TheVariants.{BlockString}
-use Rattle.graphql_core.specs.{Meaning, Ignored, TokenOf, Stands, block_string_of, in_block_form, has_block_lines, nowhere, MayFollow}
+use Rattle.graphql_core.specs.{Meaning, Ignored, TokenOf, IsLexicalElement, block_string_of, in_block_form, has_block_lines, nowhere, MayFollow}
 use Rattle.graphql_standard.specs.lexical.Elements.{LexicalGrammar}
 use Rattle.graphql_standard.proofs.lexical.Laws.{LexicalLaws, either_follows, none_at_the_end}
 use Rattle.graphql_core.specs.lexical.Elements.{element_kind, ignored_kind}
@@ -80,7 +80,7 @@ module _ {E : LexicalGrammar} (laws : LexicalLaws E) where
       → HasKept E rest ks → HasKept E (bytes ++ rest) (own ++ ks)
   then_kept m bytes rest own ks el e (ps, division, f) = (record { bytes = bytes; meaning = m } ∷ ps, (rest, refl, el, division), λ i. e i ++ f i)
 
-  ignored_kept : (m : Move) (bytes rest : List ℕ) (own ks : List Kept) → Stands bytes (Ignored m) rest → kept_element (ignored_kind bytes) bytes ≡ own
+  ignored_kept : (m : Move) (bytes rest : List ℕ) (own ks : List Kept) → IsLexicalElement bytes (Ignored m) rest → kept_element (ignored_kind bytes) bytes ≡ own
       → HasKept E rest ks → HasKept E (bytes ++ rest) (own ++ ks)
   ignored_kept m bytes rest own ks st e has = then_kept (Ignored m) bytes rest own ks (laws.shared bytes (Ignored m) rest refl st) e has
 

@@ -12,7 +12,7 @@ use Rattle.graphql_fmt.specs.steps.Pieces.{kept_piece, spelled, spelled_piece, A
 use Rattle.graphql_fmt.specs.steps.Joining.{AreJoined}
 use Rattle.graphql_fmt.proofs.Elements.{AreSpelled, all_spelled, kept_is}
 use Rattle.graphql_fmt.proofs.Joining.{joined_kept}
-use Rattle.graphql_fmt.proofs.Tidying.{laid_out}
+use Rattle.graphql_fmt.proofs.Tidying.{formatted}
 
 module _ (source text : List ℕ) (pieces : List Piece) (of : ArePiecesOf source pieces) (joined : AreJoined pieces text) where
   -- the pieces are spelled in each lexical grammar that the whole source is in
@@ -42,7 +42,7 @@ module _ (source text : List ℕ) (pieces : List Piece) (of : ArePiecesOf source
   pub is_tidy : IsTidy text
   is_tidy =
       let (ps, division, is) = of in
-      (map kept_piece pieces, output_kept, laid_out pieces text (are_spelled either_laws ps division is) joined)
+      (map kept_piece pieces, output_kept, formatted pieces text (are_spelled either_laws ps division is) joined)
 
 -- what holds of every source of the pieces
 pub written : (r : Result (String Global) AllocError) (pieces : List Piece) → IfOk r (λ text. AreJoined pieces (string_bytes text))

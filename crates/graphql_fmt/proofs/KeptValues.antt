@@ -5,7 +5,7 @@ use Rattle.graphql_core.specs.declared.tokenizer.piece.Nesting.TheVariants.{Unch
 use Rattle.graphql_core.specs.declared.tokenizer.token.Kind.{Kind}
 use Rattle.graphql_core.specs.declared.tokenizer.token.Kind.TheVariants.{Punctuator, Name, IntValue, FloatValue, StringValue, BlockString}
 use Rattle.graphql_core.specs.declared.tokenizer.element.ElementKind.TheVariants as element
-use Rattle.graphql_core.specs.{Meaning, Ignored, TokenOf, Stands, Piece, start, Item, HasItems, Where, item_at, TokenContent, LexicalError, too_deep}
+use Rattle.graphql_core.specs.{Meaning, Ignored, TokenOf, IsLexicalElement, Piece, start, Item, HasItems, Where, item_at, TokenContent, LexicalError, too_deep}
 use Rattle.graphql_core.specs.{is_too_deep, token_then, piece_then, items_of, past_ignored, past_token, split, Last, LastIsError, IsEnd, Token, nowhere}
 use Rattle.graphql_core.specs.{kind_number, token_of, valued, block_string_of}
 use Rattle.graphql_core.specs.lexical.Items.{openers_after, closers_after}
@@ -34,7 +34,7 @@ nesting FloatValue s = Unchanged
 nesting StringValue s = Unchanged
 nesting BlockString s = Unchanged
 
-nesting_is : {s : List ℕ} {k : Kind} {n : Nesting} {rest : List ℕ} → Stands s (TokenOf k n) rest → nesting k s ≡ n
+nesting_is : {s : List ℕ} {k : Kind} {n : Nesting} {rest : List ℕ} → IsLexicalElement s (TokenOf k n) rest → nesting k s ≡ n
 nesting_is (name_token first continues ends) = refl
 nesting_is (punctuator_token m) = refl
 nesting_is spread_token = refl
@@ -106,7 +106,7 @@ says_ignored : (is_comment : Bool) (bytes : List ℕ) (w : Where) (items : List 
 says_ignored true bytes w items ks h = h
 says_ignored false bytes w items ks h = h
 
-says_piece : (m : Meaning) (bytes rest : List ℕ) (w : Where) (more : Where → List Item) (ks : List Kept) → Stands bytes m rest
+says_piece : (m : Meaning) (bytes rest : List ℕ) (w : Where) (more : Where → List Item) (ks : List Kept) → IsLexicalElement bytes m rest
     → ((v : Where) → SaysItems v (more v) ks) → SaysItems w (piece_then m more w bytes) (kept_element (element_kind bytes m) bytes ++ ks)
 says_piece (Ignored m) bytes rest w more ks st h =
     says_ignored (slice_index bytes 0 == 35) bytes w (more (past_ignored m (length bytes) w)) ks (h (past_ignored m (length bytes) w))
@@ -115,13 +115,13 @@ says_piece (TokenOf k n) bytes rest w more ks st h =
 
 -- ---- whole inputs
 
-says_items : (ps : List Piece) (text : List ℕ) (w : Where) → IsDividedInto Stands text ps [] → SaysItems w (items_of w ps []) (kept ps)
+says_items : (ps : List Piece) (text : List ℕ) (w : Where) → IsDividedInto IsLexicalElement text ps [] → SaysItems w (items_of w ps []) (kept ps)
 unfolding items_of
 says_items [] text w division = (refl, refl)
 says_items (p ∷ ps) text w (rest, e, st, division) =
     says_piece p.meaning p.bytes rest w (λ v. items_of v ps []) (kept ps) st (λ v. says_items ps rest v division)
 
-says_kept : (text : List ℕ) (items : List Item) (ks : List Kept) → HasItems text items → HasKept Stands text ks → SaysItems start items ks
+says_kept : (text : List ℕ) (items : List Item) (ks : List Kept) → HasItems text items → HasKept IsLexicalElement text ks → SaysItems start items ks
 says_kept text items ks has (ps, division, is) =
     let same = items_unique text _ items (ps, [], division_in_core text ps [] division, refl) has in
     subst (SaysItems start items) is (subst (λ (found : List Item). SaysItems start found (kept ps)) same (says_items ps text start division))
@@ -136,7 +136,7 @@ end_at (LastIsError p c) is = absurd cc
 
 -- Inputs with the same tokens and comments have tokens of the same kinds and values. If one is a list of tokens and
 -- then the end of the input, so is the other.
-pub same_values : (source text : List ℕ) (items others : List Item) (ks : List Kept) → HasKept Stands source ks → HasKept Stands text ks
+pub same_values : (source text : List ℕ) (items others : List Item) (ks : List Kept) → HasKept IsLexicalElement source ks → HasKept IsLexicalElement text ks
     → HasItems source items → HasItems text others
     → (map valued (split others).tokens ≡ map valued (split items).tokens) × (IsEnd (split items).last → IsEnd (split others).last)
 same_values source text items others ks mine theirs has more =
@@ -159,17 +159,17 @@ all_piece (TokenOf k Opens) w bytes stop more f end = all_opened (is_too_deep Op
     all_opened true end = absurd end
     all_opened false end = f (past_token Opens bytes w) end
 
-all_cut : (ps : List Piece) (stop : List ℕ) (w : Where) → IsEnd (split (items_of w ps stop)).last → stop ≡ []
+all_tokenized : (ps : List Piece) (stop : List ℕ) (w : Where) → IsEnd (split (items_of w ps stop)).last → stop ≡ []
 unfolding items_of
-all_cut [] [] w end = refl
-all_cut [] (b ∷ bs) w end = absurd end
-all_cut (p ∷ ps) stop w end = all_piece p.meaning w p.bytes stop (λ v. items_of v ps stop) (λ v. all_cut ps stop v) end
+all_tokenized [] [] w end = refl
+all_tokenized [] (b ∷ bs) w end = absurd end
+all_tokenized (p ∷ ps) stop w end = all_piece p.meaning w p.bytes stop (λ v. items_of v ps stop) (λ v. all_tokenized ps stop v) end
 
 -- An input of tokens and then its end is lexical elements, so it has a list of tokens and comments.
-pub has_kept : (text : List ℕ) (items : List Item) → HasItems text items → IsEnd (split items).last → (ks : List Kept) × HasKept Stands text ks
-has_kept text items (ps, stop, cut, is) end =
-    let none : stop ≡ [] = all_cut ps stop start (subst (λ (found : List Item). IsEnd (split found).last) is end) in
-    (kept ps, (ps, subst (λ (rest : List ℕ). IsDividedInto Stands text ps rest) none (core_division text ps stop cut), refl))
+pub has_kept : (text : List ℕ) (items : List Item) → HasItems text items → IsEnd (split items).last → (ks : List Kept) × HasKept IsLexicalElement text ks
+has_kept text items (ps, stop, tokenized, is) end =
+    let none : stop ≡ [] = all_tokenized ps stop start (subst (λ (found : List Item). IsEnd (split found).last) is end) in
+    (kept ps, (ps, subst (λ (rest : List ℕ). IsDividedInto IsLexicalElement text ps rest) none (core_division text ps stop tokenized), refl))
 
 pub has_kept_of_either : (text : List ℕ) (items : List Item) → HasItems text items → IsEnd (split items).last → (ks : List Kept) × HasKept IsEither text ks
 has_kept_of_either text items has end =

@@ -7,7 +7,7 @@ use Rattle.graphql_fmt.specs.declared.pieces.piece.PieceKind.TheVariants as piec
 use Rattle.graphql_fmt.specs.declared.pieces.piece.Piece.{Piece}
 use Rattle.graphql_fmt.specs.declared.pieces.gap.Gap.{Gap}
 use Rattle.graphql_fmt.specs.declared.pieces.gap.Gap.TheVariants.{Nothing, Space, Comma, Line}
-use Rattle.graphql_fmt.specs.Tidy.{IsGap, gap_nothing, gap_space, gap_comma, gap_line, gap_blank, IsWrittenAs, AreAfterGaps, AreLaidOut}
+use Rattle.graphql_fmt.specs.Tidy.{IsGap, gap_nothing, gap_space, gap_comma, gap_line, gap_blank, IsWrittenAs, AreAfterGaps, AreFormatted}
 use Rattle.graphql_fmt.specs.steps.Pieces.{kept_by, kept_piece, spelled_piece, IsSpelling}
 use Rattle.graphql_fmt.specs.steps.Joining.{gap_bytes, IsWrittenFor, AreJoinedAfter, AreJoined}
 use Rattle.graphql_fmt.proofs.Elements.{AreSpelled, block_spelling}
@@ -38,6 +38,6 @@ after_gaps before [] text is e = e
 after_gaps before (p ∷ ps) text (one, is) (gap, s, rest, e, apart, written, more) =
     (gap_bytes gap, s, rest, e, is_gap gap, written_as p s one written, after_gaps p.kind ps rest is more)
 
-pub laid_out : (ps : List Piece) (text : List ℕ) → AreSpelled IsEither (map spelled_piece ps) → AreJoined ps text → AreLaidOut (map kept_piece ps) text
-laid_out [] text is e = e
-laid_out (p ∷ ps) text (one, is) (s, rest, e, written, more) = (s, rest, e, written_as p s one written, after_gaps p.kind ps rest is more)
+pub formatted : (ps : List Piece) (text : List ℕ) → AreSpelled IsEither (map spelled_piece ps) → AreJoined ps text → AreFormatted (map kept_piece ps) text
+formatted [] text is e = e
+formatted (p ∷ ps) text (one, is) (s, rest, e, written, more) = (s, rest, e, written_as p s one written, after_gaps p.kind ps rest is more)

@@ -1,6 +1,6 @@
 -- The results of formatting a source.
 use Rattle.std.specs.Prelude.{◌≡◌, ◌≤◌, ◌<◌, ℕ, List, length, Result, IfOk, IfErr, IsErrOf}
-use Rattle.graphql_core.specs.{max_length, IsDocumentOf, IsReadBack}
+use Rattle.graphql_core.specs.{max_length, IsDocumentOf, ParsesBackTo}
 use Rattle.graphql_query.specs.{queries}
 use Rattle.graphql_query.specs.Tree as query
 use Rattle.graphql_schema.specs.{schemas}
@@ -28,6 +28,6 @@ pub record HasSameDocuments (source text : List ℕ) : Type 0 where
   -- The parse trees in the grammar of September 2025 are the same.
   pub standard : HasSameTrees source text
   -- If the source parses to a query document, the text parses to the same, ignoring positions.
-  pub queries : (d : query.DocumentTree) → IsDocumentOf queries source d → IsReadBack queries text d
+  pub queries : (d : query.DocumentTree) → IsDocumentOf queries source d → ParsesBackTo queries text d
   -- If the source parses to a schema document, the text parses to the same, ignoring positions.
-  pub schemas : (d : schema.DocumentTree) → IsDocumentOf schemas source d → IsReadBack schemas text d
+  pub schemas : (d : schema.DocumentTree) → IsDocumentOf schemas source d → ParsesBackTo schemas text d

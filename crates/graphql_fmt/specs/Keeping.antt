@@ -6,7 +6,7 @@ use Rattle.graphql_core.specs.declared.tokenizer.token.Kind.TheVariants.{Punctua
 use Rattle.graphql_core.specs.declared.tokenizer.token.Kind.TheVariants.{StringValue, BlockString}
 use Rattle.graphql_core.specs.declared.tokenizer.element.ElementKind.{ElementKind}
 use Rattle.graphql_core.specs.declared.tokenizer.element.ElementKind.TheVariants as element
-use Rattle.graphql_core.specs.{Piece, Stands, block_string_of}
+use Rattle.graphql_core.specs.{Piece, IsLexicalElement, block_string_of}
 use Rattle.graphql_core.specs.lexical.Elements.{element_kind}
 use Rattle.graphql_standard.specs.lexical.Elements.{LexicalGrammar, IsDividedInto, IsElement, IsEither}
 
@@ -62,4 +62,4 @@ pub record KeepsAll (source text : List ℕ) : Type 0 where
   -- If the source is elements of September 2025 alone, so is the text.
   pub standard : KeepsIn IsElement source text
   -- If the source is elements of `graphql_core` alone, so is the text.
-  pub core : KeepsIn Stands source text
+  pub core : KeepsIn IsLexicalElement source text

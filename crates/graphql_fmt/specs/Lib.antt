@@ -10,5 +10,5 @@ pub use Comments.{HasNoToken}
 pub use Formatting.{AcceptsDocuments, HasSameDocuments}
 pub use Keeping.{HasKept, KeepsAll, KeepsIn, Kept, KeptBlock, KeptComment, KeptToken}
 pub use Keeping.{kept, kept_element, kept_token, trimmed}
-pub use Tidy.{AreAfterGaps, AreLaidOut, IsBlockString, IsGap, IsTidy, IsWrittenAs}
+pub use Tidy.{AreAfterGaps, AreFormatted, IsBlockString, IsGap, IsTidy, IsWrittenAs}
 pub use Trees.{HasSameTrees, HasTree, IsSameTree, form_of}

@@ -1,6 +1,6 @@
 //! Theorems about what formatting keeps.
 ghost use Rattle.std.specs.Prelude.{ℕ, List};
-ghost use Rattle.graphql_core.specs.{IsDocumentOf, IsReadBack, Stands};
+ghost use Rattle.graphql_core.specs.{IsDocumentOf, ParsesBackTo, IsLexicalElement};
 ghost use Rattle.graphql_query.specs.{queries};
 ghost use Rattle.graphql_query.specs.Tree as query;
 ghost use Rattle.graphql_schema.specs.{schemas};
@@ -12,10 +12,10 @@ ghost use Rattle.graphql_fmt.specs.{Kept, HasKept, HasSameTrees};
 /// positions, in either language. Those with the same tokens and comments by the lexical grammar of September 2025 have
 /// the same parse trees.
 pub fn kept_tokens_have_one_document()
-    ensures queries { (source text : List ℕ) (ks : List Kept) (d : query.DocumentTree) → HasKept Stands source ks
-        → HasKept Stands text ks → IsDocumentOf queries source d → IsReadBack queries text d }
-    ensures schemas { (source text : List ℕ) (ks : List Kept) (d : schema.DocumentTree) → HasKept Stands source ks
-        → HasKept Stands text ks → IsDocumentOf schemas source d → IsReadBack schemas text d }
+    ensures queries { (source text : List ℕ) (ks : List Kept) (d : query.DocumentTree) → HasKept IsLexicalElement source ks
+        → HasKept IsLexicalElement text ks → IsDocumentOf queries source d → ParsesBackTo queries text d }
+    ensures schemas { (source text : List ℕ) (ks : List Kept) (d : schema.DocumentTree) → HasKept IsLexicalElement source ks
+        → HasKept IsLexicalElement text ks → IsDocumentOf schemas source d → ParsesBackTo schemas text d }
     ensures standard { (source text : List ℕ) (ks : List Kept) → HasKept IsElement source ks → HasKept IsElement text ks
         → HasSameTrees source text }
 {}

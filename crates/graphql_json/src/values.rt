@@ -57,7 +57,7 @@ fn write_value<N: Names>(out: &mut Buffer, value: &Value<N>) -> Result<(), Alloc
         Value::Int(number) => write_int(out, number.as_i64().unwrap()),
         Value::Float(literal) => write_valued(out, "FloatValue", literal.as_str()),
         Value::String(text) => write_valued(out, "StringValue", text.as_str()),
-        Value::Boolean(answer) => write_boolean_value(out, *answer),
+        Value::Boolean(is_true) => write_boolean_value(out, *is_true),
         Value::Null => write_null(out),
         Value::Enum(name) => write_valued(out, "EnumValue", N::view(name)),
         Value::List(items) => write_list(out, items),

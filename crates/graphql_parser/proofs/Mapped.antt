@@ -1,4 +1,4 @@
--- What `map_err` answers, and `?` after it.
+-- What `map_err` returns, and `?` after it.
 use Rattle.std.proofs.Common.{◌≡◌, ◌∙◌, Result, Ok, Err, MatchResult, IfOk, IfErr, sym, ap, subst, true≢false}
 use Rattle.std.specs.Result.{IsErrAnd, is_ok}
 use Rattle.std.proofs.lemmas.Result.{IfOk-at_ok, IfErr-at_err}
@@ -14,7 +14,7 @@ module _ {T E F : Type 0} where
       → s ≡ Ok x → IfOk r Q → Q x
   at_passed r P Q cases kind is h = IfOk-at_ok Q (ok_before P cases kind is) h
 
-  -- and so where the answer is handed on, and an error is what the function makes of the error before
+  -- and so where the result is passed on, and an error is what the function makes of the error before
   pub mapped : (r : Result T E) (s : Result T F) (f : E → F) (P : T → Type 0) (Q : F → Type 0)
       → MatchResult r (λ v. s ≡ Ok v) (λ e. IsErrAnd s (λ y. y ≡ f e)) → MatchResult r P (λ e. Q (f e)) → MatchResult s P Q
   mapped (Ok v) s f P Q same h = subst (λ t. MatchResult t P Q) (sym same) h

@@ -58,7 +58,7 @@ pub mod laws {
             brackets_are_those_of_the_layout, definition_errors_have_different_indexes,
             first_definition_is_unique, first_errors_stop_all_documents,
             minified_texts_are_parsed_alike, no_definition_begins_another,
-            none_goes_on_with_an_unexpected_item, printed_documents_are_read_back,
+            none_goes_on_with_an_unexpected_item, printed_documents_parse_back,
             readers_return_what_is_derived, text_has_no_positions,
         };
     }
@@ -67,7 +67,7 @@ pub mod laws {
     pub mod schema {
         pub use graphql_schema::{
             brackets_are_those_of_the_layout, minified_texts_are_parsed_alike,
-            none_goes_on_with_an_unexpected_item, printed_documents_are_read_back,
+            none_goes_on_with_an_unexpected_item, printed_documents_parse_back,
             readers_return_what_is_derived, rejected_nodes_are_in_the_input, text_has_no_positions,
         };
     }

@@ -1,6 +1,6 @@
 -- The language of queries: the document of an input, and the errors of an input without one.
 use Rattle.std.specs.Prelude.{ℕ, List, Result}
-use Rattle.graphql_core.specs.{Refusal, Items, FaultText, Language}
+use Rattle.graphql_core.specs.{ParseFailure, Items, FaultText, Language}
 use Rattle.graphql_query.specs.Tree.{DocumentTree, erase}
 use Rattle.graphql_query.specs.Grammar.{query, document_symbol}
 use Rattle.graphql_query.specs.steps.FactoredRules.{factored_rows, changes}
@@ -16,7 +16,7 @@ queries = record {
   means = document_of;
   erase = erase;
   lacks = λ c. fault.HasNoValue;
-  refuses = λ node f. ⊥;
+  rejects = λ node f. ⊥;
   factored_rows = factored_rows;
   changes = changes;
 }
@@ -32,15 +32,15 @@ abbrev pub IsDocumentOf : List ℕ → DocumentTree → Type 0
 IsDocumentOf = document.IsDocumentOf queries
 
 -- the input parses to this document, ignoring positions
-abbrev pub IsReadBack : List ℕ → DocumentTree → Type 0
-IsReadBack = document.IsReadBack queries
+abbrev pub ParsesBackTo : List ℕ → DocumentTree → Type 0
+ParsesBackTo = document.ParsesBackTo queries
 
 -- the result is sound and complete, for an input of at most `max_length` bytes; which error it is, is left open
-abbrev pub IsParsed : List ℕ → Result DocumentTree Refusal → Type 0
+abbrev pub IsParsed : List ℕ → Result DocumentTree ParseFailure → Type 0
 IsParsed = document.IsParsed queries
 
 -- both are documents that are equal ignoring positions, or both are errors, unless an allocation failed
-abbrev pub AreAlike : Result DocumentTree Refusal → Result DocumentTree Refusal → Type 0
+abbrev pub AreAlike : Result DocumentTree ParseFailure → Result DocumentTree ParseFailure → Type 0
 AreAlike = document.AreAlike queries
 
 -- ---- errors

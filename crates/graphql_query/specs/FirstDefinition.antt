@@ -1,7 +1,7 @@
 -- The first definition of a source, and the rest of the source after it.
 use Rattle.std.specs.Prelude.{◌≡◌, ℕ, List, [], ◌∷◌, ◌++◌, length, drop}
 use Rattle.graphql_core.specs.{Token, Sym, ParseTree, leaves, Fits, lax, split, Item, HasItems, next_place, Language}
-use Rattle.graphql_query.specs.Document.{queries, IsReadBack}
+use Rattle.graphql_query.specs.Document.{queries, ParsesBackTo}
 use Rattle.graphql_query.specs.Earlier.{queries_0_4_1}
 use Rattle.graphql_query.specs.Tree.{DefinitionTree, DocumentTree, erase_definition}
 use Rattle.graphql_query.specs.Grammar.{query, definition_symbol}
@@ -15,7 +15,7 @@ one_definition_of l = record {
   means = definition_of;
   erase = erase_definition;
   lacks = l.lacks;
-  refuses = l.refuses;
+  rejects = l.rejects;
   factored_rows = l.factored_rows;
   changes = l.changes;
 }
@@ -74,4 +74,4 @@ NoneBeginsAnother =
 -- the rest parses to these definitions, ignoring positions; if there are none, the rest is empty
 abbrev pub HasDefinitions : List ℕ → List DefinitionTree → Type 0
 HasDefinitions rest [] = rest ≡ []
-HasDefinitions rest (d ∷ ds) = IsReadBack rest (d ∷ ds)
+HasDefinitions rest (d ∷ ds) = ParsesBackTo rest (d ∷ ds)

@@ -2,7 +2,7 @@ pub mod Document
 pub mod Earlier
 pub mod examples
 pub mod Grammar
-pub mod Lawful
+pub mod WellFormed
 pub mod Layout
 pub mod Meanings
 pub mod Printable
@@ -15,7 +15,7 @@ unfoldable pub use Document.*
 unfoldable pub use Earlier.*
 unfoldable pub use examples.*
 unfoldable pub use Grammar.*
-unfoldable pub use Lawful.*
+unfoldable pub use WellFormed.*
 unfoldable pub use Layout.*
 unfoldable pub use Meanings.*
 unfoldable pub use Printable.*
@@ -24,9 +24,9 @@ unfoldable pub use TreeDepth.*
 unfoldable pub use FirstDefinition.*
 unfoldable pub use Minifying.*
 unfoldable pub use steps.*
-pub use Document.{IsDocument, IsDocumentOf, IsReadBack, queries}
+pub use Document.{IsDocument, IsDocumentOf, ParsesBackTo, queries}
 pub use Layout.{IsTooWide, layout}
 pub use Printable.{IsPrintable}
 pub use Tree.{DefinitionTree, DocumentTree, definitions_view, document_view, erase}
 pub use FirstDefinition.{IsFirstDefinition, one_definition}
-pub use Minifying.{IsMinifyRefusalOf}
+pub use Minifying.{IsMinifyErrorOf}

@@ -83,7 +83,7 @@ abbrev pub HasDefinition : DocumentTree → Type 0
 HasDefinition [] = ⊥
 HasDefinition (d ∷ ds) = Unit {0}
 
--- the document is printable: if it also satisfies `IsLawfulDocument`, its layout parses back to it, ignoring positions
+-- the document is printable: if it also satisfies `IsWellFormedDocument`, its layout parses back to it, ignoring positions
 pub record IsPrintable (d : DocumentTree) : Type 0 where
   pub definition : HasDefinition d
   -- names, types and values are printable

@@ -1,7 +1,7 @@
 //! Parsing the first definition of a source.
 ghost use Rattle.std.specs.Prelude.{◌≡◌, ◌<◌, ◌≤◌, ◌/◌, ℕ, List, ◌∷◌, ◌++◌, length, drop, IfOk, IfErr, IsErrOf};
 ghost use Rattle.graphql_core.specs.{Token, ParseTree, no_memory, max_length, too_long, Item, HasItems, next_place};
-ghost use Rattle.graphql_core.specs.{AnswersUnlessMemory, IsRefusalFor, IsRefusalOf};
+ghost use Rattle.graphql_core.specs.{ReturnsUnlessOutOfMemory, IsErrorFor, IsErrorOf};
 ghost use Rattle.graphql_query.specs.{HasNoNewPart, DefinitionTree, definition_view, one_definition, text_after};
 ghost use Rattle.graphql_query.specs.{BeginsWith, IsFirstDefinition, IsFirstDefinition_0_4_1, TakesDefinition};
 ghost use Rattle.graphql_query.specs.{BeginsWithDefinition, IsFirstParseTree, BeginsWithParseTree, IsDocumentOf};
@@ -26,7 +26,7 @@ fn first_definition<S: TokenSource>(
         (λ d. TakesDefinition (S.items source.old) (S.items source.new) (definition_view S.Names.bytes d)) }
     ensures complete { (x : ParseTree) (others : List Token) → BeginsWith (S.items source.old).tokens x others
         → IfErr result (λ e. e ≡ no_memory) }
-    ensures first_error { IfErr result (IsRefusalFor one_definition (S.items source.old)) }
+    ensures first_error { IfErr result (IsErrorFor one_definition (S.items source.old)) }
 {
     match definition(alloc, source, selections) {
         Ok(definition) => Ok(definition),
@@ -74,26 +74,26 @@ pub fn consume_definition<'a, S: Text<'a>>(
     // Every source of at most `MAX_LENGTH` bytes that begins with a definition is accepted, or the call returns
     // `OutOfMemory`.
     ensures complete { (r : DefinitionTree × List ℕ) → length source.now ≤ max_length → IsFirstDefinition source.now r
-        → AnswersUnlessMemory (λ a. (definition_view S.Names.bytes a.0, a.1.now)) r result }
+        → ReturnsUnlessOutOfMemory (λ a. (definition_view S.Names.bytes a.0, a.1.now)) r result }
 
     // If such a source is a document, the result is its first definition, and the rest parses to the other definitions,
     // ignoring positions. If there are no others, the rest is empty.
     ensures document { (d : DefinitionTree) (ds : List DefinitionTree) → length source.now ≤ max_length
         → IsDocumentOf source.now (d ∷ ds) → (rest : List ℕ) × HasDefinitions rest ds
-        × AnswersUnlessMemory {D = DefinitionTree × List ℕ}
+        × ReturnsUnlessOutOfMemory {D = DefinitionTree × List ℕ}
         (λ a. (definition_view S.Names.bytes a.0, a.1.now)) (d, rest) result }
 
     // In a source of at most `MAX_LENGTH` bytes, the first definition of version 0.4.1 is returned as it was there,
     // with the same rest, or the call returns `OutOfMemory`. The definition has no part that was added since.
     ensures earlier { (r : DefinitionTree × List ℕ) → length source.now ≤ max_length
         → IsFirstDefinition_0_4_1 source.now r
-        → HasNoNewPart r.0 × AnswersUnlessMemory (λ a. (definition_view S.Names.bytes a.0, a.1.now)) r result }
+        → HasNoNewPart r.0 × ReturnsUnlessOutOfMemory (λ a. (definition_view S.Names.bytes a.0, a.1.now)) r result }
 
     // An error is the first error of a source that must begin with a definition. Errors of one source have different
     // indexes (`definition_errors_have_different_indexes`).
     //
     // A source that is too long is rejected before any allocation.
-    ensures first_error { IfErr result (IsRefusalOf one_definition source.now) }
+    ensures first_error { IfErr result (IsErrorOf one_definition source.now) }
     ensures too_long { max_length < length source.now → IsErrOf result too_long }
 {
     if source.len() > MAX_LENGTH {

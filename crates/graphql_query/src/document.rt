@@ -1,7 +1,7 @@
 //! Parsing whole documents.
 ghost use Rattle.std.specs.Prelude.{◌≤◌, ◌≤ℤ◌, pos, length, IfOk};
 ghost use Rattle.graphql_core.specs.{depth_of, next_place, max_length};
-ghost use Rattle.graphql_core.specs.{AnswersUnlessMemory, ParsesDocument, ParsesStream};
+ghost use Rattle.graphql_core.specs.{ReturnsUnlessOutOfMemory, ParsesDocument, ParsesStream};
 ghost use Rattle.graphql_query.specs.{DocumentTree, document_view, queries, IsDocumentOf_0_4_1, HasNoNewParts};
 ghost use Rattle.graphql_query.specs.{IsPrintable};
 
@@ -52,7 +52,7 @@ pub fn parse_query<'a, S: Text<'a>>(
     // Every input of at most `MAX_LENGTH` bytes that is valid in version 0.4.1 parses as it did there, or the call
     // returns `OutOfMemory`. The document has no part that was added since.
     ensures earlier { (d : DocumentTree) → length source.now ≤ max_length → IsDocumentOf_0_4_1 source.now d
-        → HasNoNewParts d × AnswersUnlessMemory (document_view S.Names.bytes) d result }
+        → HasNoNewParts d × ReturnsUnlessOutOfMemory (document_view S.Names.bytes) d result }
 
     // Every parsed document is printable.
     ensures printable { IfOk result (λ d. IsPrintable (document_view S.Names.bytes d)) }

@@ -1,7 +1,7 @@
 //! Theorems about the specification of errors, of minifying, of readers and of first definitions.
 ghost use Rattle.std.specs.Prelude.{◌≡◌, ◌<◌, ℕ, true, List, length, Result};
 ghost use Rattle.graphql_core.specs.{Item, is_unexpected, IsMinified, FaultText, split, IsFirstError, NoneGoesOn};
-ghost use Rattle.graphql_core.specs.{Refusal, Sym, ParseTree, Items, reason_of, HasOneFaultEach};
+ghost use Rattle.graphql_core.specs.{ParseFailure, Sym, ParseTree, Items, reason_of, HasOneFaultEach};
 ghost use Rattle.graphql_core.specs.documents.ByGrammar.{ReturnsDerived};
 ghost use Rattle.graphql_core.specs.declared.helpers.read_error.ReadError.{ReadError};
 ghost use Rattle.graphql_query.specs.{DocumentTree, queries, IsParsed, AreAlike, StopsAllDocumentsOf, IsFirstErrorOf};
@@ -27,7 +27,7 @@ pub fn none_goes_on_with_an_unexpected_item()
 
 /// A minified source parses as its original does, ignoring positions: both to equal documents, or both to an error.
 pub fn minified_texts_are_parsed_alike()
-    ensures alike { (source text : List ℕ) (r s : Result DocumentTree Refusal) → IsMinified source text
+    ensures alike { (source text : List ℕ) (r s : Result DocumentTree ParseFailure) → IsMinified source text
         → IsParsed source r → IsParsed text s → AreAlike r s }
     // The two errors have the same cause.
     ensures one_cause { (source text : List ℕ) (f g : FaultText) → IsMinified source text → IsFirstErrorOf source f

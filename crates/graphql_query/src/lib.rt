@@ -22,7 +22,7 @@ pub use laws::{
 };
 pub use minify::{MinifyError, minify_query};
 pub use text_laws::{
-    brackets_are_those_of_the_layout, printed_documents_are_read_back, text_has_no_positions,
+    brackets_are_those_of_the_layout, printed_documents_parse_back, text_has_no_positions,
     worked_examples,
 };
 

@@ -2,8 +2,8 @@
 //! and `...`.
 ghost use Rattle.std.specs.Prelude.{◌<◌, ◌≤◌, ℕ, List, length, IfOk, IfErr, IsErrOf, string_bytes};
 ghost use Rattle.graphql_core.specs.{HasTokens, HasItems, Item, split, IsMinified, max_length, too_long};
-ghost use Rattle.graphql_core.specs.{AnswersUnlessMemory};
-ghost use Rattle.graphql_query.specs.{IsDocumentOf, IsReadBack, DocumentTree, IsMinifyRefusalOf};
+ghost use Rattle.graphql_core.specs.{ReturnsUnlessOutOfMemory};
+ghost use Rattle.graphql_query.specs.{IsDocumentOf, ParsesBackTo, DocumentTree, IsMinifyErrorOf};
 
 mod error;
 
@@ -31,18 +31,18 @@ pub fn minify_query(alloc: Global, source: String) -> Result<String, MinifyError
 
     // The source and the output parse to the same document, ignoring positions, or both are no document.
     ensures document { IfOk result
-        (λ text. (d : DocumentTree) → IsDocumentOf (string_bytes source) d → IsReadBack (string_bytes text) d) }
+        (λ text. (d : DocumentTree) → IsDocumentOf (string_bytes source) d → ParsesBackTo (string_bytes text) d) }
     ensures no_other { IfOk result
-        (λ text. (d : DocumentTree) → IsDocumentOf (string_bytes text) d → IsReadBack (string_bytes source) d) }
+        (λ text. (d : DocumentTree) → IsDocumentOf (string_bytes text) d → ParsesBackTo (string_bytes source) d) }
 
     // Every source of at most `MAX_LENGTH` bytes without a lexical error is minified, or the call returns
     // `OutOfMemory`.
     ensures complete { (text : List ℕ) → length (string_bytes source) ≤ max_length
-        → IsMinified (string_bytes source) text → AnswersUnlessMemory string_bytes text result }
+        → IsMinified (string_bytes source) text → ReturnsUnlessOutOfMemory string_bytes text result }
 
     // An error is the lexical error of the source, `TextTooLong` or `OutOfMemory`. A source that is too long is
     // rejected before any allocation.
-    ensures first_error { IfErr result (IsMinifyRefusalOf (string_bytes source)) }
+    ensures first_error { IfErr result (IsMinifyErrorOf (string_bytes source)) }
     ensures too_long { max_length < length (string_bytes source) → IsErrOf result too_long }
 {
     if source.len() > MAX_LENGTH {

@@ -1,7 +1,7 @@
 //! Theorems about the specification of formatting.
 ghost use Rattle.std.specs.Prelude.{◌≡◌};
-ghost use Rattle.graphql_core.specs.{deepest, StyleOptions, most, AreReadBack};
-ghost use Rattle.graphql_query.specs.{DocumentTree, erase, queries, IsLawfulDocument, document_layout, layout};
+ghost use Rattle.graphql_core.specs.{deepest, StyleOptions, most, OutputsParseBack};
+ghost use Rattle.graphql_query.specs.{DocumentTree, erase, queries, IsWellFormedDocument, document_layout, layout};
 ghost use Rattle.graphql_query.specs.{IsPrintable, definition_brackets};
 ghost use Rattle.graphql_query.specs.examples.QueryExamples as example;
 
@@ -32,6 +32,6 @@ pub fn text_has_no_positions()
 /// The layout of a printable document, in any style, parses back to the document, ignoring positions. So formatting is
 /// idempotent, the layouts in two styles parse to the same document, and documents with the same layout are the same.
 /// The values must satisfy the invariants of their types.
-pub fn printed_documents_are_read_back()
-    ensures { AreReadBack queries layout (λ d. IsPrintable d × IsLawfulDocument d) }
+pub fn printed_documents_parse_back()
+    ensures { OutputsParseBack queries layout (λ d. IsPrintable d × IsWellFormedDocument d) }
 {}

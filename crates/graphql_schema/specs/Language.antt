@@ -44,7 +44,7 @@ schemas = record {
   means = document_of;
   erase = erase;
   lacks = Lacks;
-  refuses = λ node f. said_of node ≡ Some f;
+  rejects = λ node f. said_of node ≡ Some f;
   factored_rows = factored_rows;
   changes = changes;
 }
@@ -56,8 +56,8 @@ abbrev pub IsDocumentOf : List ℕ → DocumentTree → Type 0
 IsDocumentOf = document.IsDocumentOf schemas
 
 -- the input parses to this document, ignoring positions
-abbrev pub IsReadBack : List ℕ → DocumentTree → Type 0
-IsReadBack = document.IsReadBack schemas
+abbrev pub ParsesBackTo : List ℕ → DocumentTree → Type 0
+ParsesBackTo = document.ParsesBackTo schemas
 
 -- ---- errors
 

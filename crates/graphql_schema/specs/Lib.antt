@@ -2,7 +2,7 @@ pub mod Earlier
 pub mod examples
 pub mod Grammar
 pub mod Language
-pub mod Lawful
+pub mod WellFormed
 pub mod Layout
 pub mod Locations
 pub mod Meanings
@@ -17,7 +17,7 @@ unfoldable pub use Earlier.*
 unfoldable pub use examples.*
 unfoldable pub use Grammar.*
 unfoldable pub use Language.*
-unfoldable pub use Lawful.*
+unfoldable pub use WellFormed.*
 unfoldable pub use Layout.*
 unfoldable pub use Locations.*
 unfoldable pub use Meanings.*

@@ -64,7 +64,7 @@ definition_brackets = definition_depth in_brackets
 
 -- ---- documents
 
--- the document is printable: if it also satisfies `IsLawfulDocument`, its layout parses back to it, ignoring positions
+-- the document is printable: if it also satisfies `IsWellFormedDocument`, its layout parses back to it, ignoring positions
 pub record IsPrintable (d : DocumentTree) : Type 0 where
   pub definition : has_any d ≡ true
   -- names, types and values are printable

@@ -4,7 +4,7 @@ pub mod RootsRead
 pub mod Body
 pub mod TypeBodies
 pub mod Readers
-pub mod Refusals
+pub mod Rejections
 pub mod Keywords
 unfoldable pub use Brackets.*
 unfoldable pub use FactoredRules.*
@@ -12,5 +12,5 @@ unfoldable pub use RootsRead.*
 unfoldable pub use Body.*
 unfoldable pub use TypeBodies.*
 unfoldable pub use Readers.*
-unfoldable pub use Refusals.*
+unfoldable pub use Rejections.*
 unfoldable pub use Keywords.*

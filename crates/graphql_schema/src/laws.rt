@@ -1,16 +1,17 @@
 //! Theorems about the specification of errors, of minifying and of readers.
 ghost use Rattle.std.specs.Prelude.{◌≡◌, ◌<◌, ℕ, true, List, length, Result};
 ghost use Rattle.graphql_core.specs.{Item, HasItems, is_unexpected, IsMinified, FaultText, split, IsParsed, AreAlike};
-ghost use Rattle.graphql_core.specs.{IsFirstError, NoneGoesOn, Refusal, IsRefusalOf, Sym, ParseTree, Items, reason_of};
+ghost use Rattle.graphql_core.specs.{IsFirstError, NoneGoesOn, ParseFailure, IsErrorOf, Sym, ParseTree, Items};
+ghost use Rattle.graphql_core.specs.{reason_of};
 ghost use Rattle.graphql_core.specs.{halt_reason};
-ghost use Rattle.graphql_core.specs.sources.Refusals.{Tells};
+ghost use Rattle.graphql_core.specs.sources.ParseFailures.{IsOutOfMemoryOr};
 ghost use Rattle.graphql_core.specs.documents.Faults.{IsFaultAt};
 ghost use Rattle.graphql_core.specs.documents.ByGrammar.{ReturnsDerived};
 ghost use Rattle.graphql_core.specs.declared.helpers.read_error.ReadError.{ReadError};
 ghost use Rattle.graphql_core.specs.declared.common.read.node_error.NodeError.{NodeError};
 ghost use Rattle.graphql_schema.specs.declared.read.invalid_node.InvalidNode.{InvalidNode};
-ghost use Rattle.graphql_schema.specs.{schemas, IsDocumentOf, IsReadBack, IsFirstErrorOf, DocumentTree, RefersTo};
-ghost use Rattle.graphql_schema.specs.{Reads, ReadsNode, refusals, factored_rows};
+ghost use Rattle.graphql_schema.specs.{schemas, IsDocumentOf, ParsesBackTo, IsFirstErrorOf, DocumentTree, RefersTo};
+ghost use Rattle.graphql_schema.specs.{Reads, ReadsNode, rejections, factored_rows};
 
 /// If the first error is an unexpected token or end, the tokens before it are a prefix of some list that the plain
 /// grammar accepts. With the offending token or end they are not. The plain grammar also accepts literals without a
@@ -24,10 +25,10 @@ pub fn none_goes_on_with_an_unexpected_item()
 /// documents, or both to an error.
 pub fn minified_texts_are_parsed_alike()
     ensures document { (source text : List ℕ) (d : DocumentTree) → IsMinified source text
-        → IsDocumentOf source d → IsReadBack text d }
+        → IsDocumentOf source d → ParsesBackTo text d }
     ensures no_other { (source text : List ℕ) (d : DocumentTree) → IsMinified source text
-        → IsDocumentOf text d → IsReadBack source d }
-    ensures alike { (source text : List ℕ) (r s : Result DocumentTree Refusal) → IsMinified source text
+        → IsDocumentOf text d → ParsesBackTo source d }
+    ensures alike { (source text : List ℕ) (r s : Result DocumentTree ParseFailure) → IsMinified source text
         → IsParsed schemas source r → IsParsed schemas text s → AreAlike schemas r s }
     // The two errors have the same cause.
     ensures one_cause { (source text : List ℕ) (f g : FaultText) → IsMinified source text → IsFirstErrorOf source f
@@ -42,8 +43,9 @@ pub fn rejected_nodes_are_in_the_input()
     ensures each { (items : List Item) (f : FaultText) (n : ℕ) → IsFaultAt schemas (split items) f n
         → RefersTo (split items).tokens n f }
     // of the error with which an input is rejected
-    ensures first { (text : List ℕ) (items : List Item) (r : Refusal) → HasItems text items → IsRefusalOf schemas text r
-        → Tells (λ f. (n : ℕ) × RefersTo (split items).tokens n f) r }
+    ensures first { (text : List ℕ) (items : List Item) (r : ParseFailure) → HasItems text items
+        → IsErrorOf schemas text r
+        → IsOutOfMemoryOr (λ f. (n : ℕ) × RefersTo (split items).tokens n f) r }
 {}
 
 /// What a reader of a symbol promises by the factored rules implies what is said by the written grammar alone. A
@@ -57,5 +59,5 @@ pub fn readers_return_what_is_derived<V, M>()
     ensures nodes { (k : ℕ) (old new : Items) (view : V → M) (means : ParseTree → M)
         (r : Result V (NodeError InvalidNode))
         → k < length factored_rows → ReadsNode (Sym k) old new (λ v x. view v ≡ means x) r
-        → ReturnsDerived schemas.grammar (Sym k) old new (halt_reason refusals) (λ v x. view v ≡ means x) r }
+        → ReturnsDerived schemas.grammar (Sym k) old new (halt_reason rejections) (λ v x. view v ≡ means x) r }
 {}

@@ -19,9 +19,9 @@ pub use laws::{
 };
 pub use location::{DirectiveLocation, InvalidDirectiveLocation, are_same_location};
 pub use text_laws::{
-    brackets_are_those_of_the_layout, locations_are_named, printed_documents_are_read_back,
-    text_has_no_positions, three_symbols_have_factored_rules, worked_examples, worked_layouts,
-    worked_refusals,
+    brackets_are_those_of_the_layout, locations_are_named, printed_documents_parse_back,
+    text_has_no_positions, three_symbols_have_factored_rules, worked_errors, worked_examples,
+    worked_layouts,
 };
 
 /// A schema document (October 2021, section 3).

@@ -12,7 +12,8 @@ mod types;
 mod width;
 
 ghost use Rattle.std.specs.Prelude.{◌≡◌, ◌↔◌, IfOk, OnOk, IsErrOf, string_bytes};
-ghost use Rattle.graphql_schema.specs.{IsReadBack, layout, IsTooWide, IsPrintable, IsLawfulDocument, DocumentTree};
+ghost use Rattle.graphql_schema.specs.{ParsesBackTo, layout, IsTooWide, IsPrintable, IsWellFormedDocument};
+ghost use Rattle.graphql_schema.specs.{DocumentTree};
 ghost use Rattle.graphql_schema.specs.{erase, document_view};
 
 use crate::print::width::is_document_too_wide;
@@ -30,15 +31,15 @@ impl<N: Names> Document<N> {
     pub fn format(&self, alloc: Global, style: &Style) -> Result<String, FormatError>
         ensures text { IfOk result (λ text. string_bytes text ≡ layout style.now (document_view N.bytes self.now)) }
         // The output of a printable document parses back to it, ignoring positions.
-        ensures read_back { IfOk result (λ text. IsPrintable (document_view N.bytes self.now)
-            → IsReadBack (string_bytes text) (document_view N.bytes self.now)) }
+        ensures parses_back { IfOk result (λ text. IsPrintable (document_view N.bytes self.now)
+            → ParsesBackTo (string_bytes text) (document_view N.bytes self.now)) }
         // If this document is printable, each printable one with this output in this style is equal to it, ignoring
         // positions. The values of the other one must satisfy the invariants of their types.
         ensures one_document { IfOk result (λ text. IsPrintable (document_view N.bytes self.now)
-            → (e : DocumentTree) → IsPrintable e → IsLawfulDocument e → layout style.now e ≡ string_bytes text
+            → (e : DocumentTree) → IsPrintable e → IsWellFormedDocument e → layout style.now e ≡ string_bytes text
             → erase e ≡ erase (document_view N.bytes self.now)) }
         // The values satisfy the invariants of their types, which theorems about formatted documents require.
-        ensures lawful { OnOk result (IsLawfulDocument (document_view N.bytes self.now)) }
+        ensures well_formed { OnOk result (IsWellFormedDocument (document_view N.bytes self.now)) }
         ensures too_wide { IsErrOf result FormatError.TooWide ↔ IsTooWide style.now (document_view N.bytes self.now) }
     {
         if is_document_too_wide(self, style) {

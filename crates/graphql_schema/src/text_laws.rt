@@ -1,10 +1,10 @@
 //! Theorems about the specification: lookahead, directive locations, examples and formatting.
 ghost use Rattle.std.specs.Prelude.{◌≡◌, ℕ, List, [], ◌∷◌, Some};
-ghost use Rattle.graphql_core.specs.{deepest, StyleOptions, most, AreReadBack};
-ghost use Rattle.graphql_schema.specs.{DocumentTree, erase, schemas, IsLawfulDocument, document_layout, layout};
+ghost use Rattle.graphql_core.specs.{deepest, StyleOptions, most, OutputsParseBack};
+ghost use Rattle.graphql_schema.specs.{DocumentTree, erase, schemas, IsWellFormedDocument, document_layout, layout};
 ghost use Rattle.graphql_schema.specs.{IsPrintable, definition_brackets, item_symbol, extension_symbol};
 ghost use Rattle.graphql_schema.specs.{described_symbol, unread, written_rows, word_of, location_of, WorkedMeanings};
-ghost use Rattle.graphql_schema.specs.{WorkedLayouts, WorkedRefusals};
+ghost use Rattle.graphql_schema.specs.{WorkedLayouts, WorkedErrors};
 ghost use Rattle.graphql_schema.specs.declared.location.DirectiveLocation.{DirectiveLocation};
 
 /// Only three of the written rules cannot be parsed with one token of lookahead.
@@ -42,11 +42,11 @@ pub fn text_has_no_positions()
 /// The layout of a printable document, in any style, parses back to the document, ignoring positions. So formatting is
 /// idempotent, the layouts in two styles parse to the same document, and documents with the same layout are the same.
 /// The values must satisfy the invariants of their types.
-pub fn printed_documents_are_read_back()
-    ensures { AreReadBack schemas layout (λ d. IsPrintable d × IsLawfulDocument d) }
+pub fn printed_documents_parse_back()
+    ensures { OutputsParseBack schemas layout (λ d. IsPrintable d × IsWellFormedDocument d) }
 {}
 
 /// Where and why some small inputs are rejected.
-pub fn worked_refusals()
-    ensures { WorkedRefusals }
+pub fn worked_errors()
+    ensures { WorkedErrors }
 {}

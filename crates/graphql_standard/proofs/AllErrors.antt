@@ -7,7 +7,7 @@ use Rattle.graphql_core.specs.declared.tokenizer.token.Kind.TheVariants.{Name}
 use Rattle.graphql_core.specs.lexical.Lexical.{ignored_line_feed}
 use Rattle.graphql_standard.specs.lexical.Elements.{shared_element}
 use Rattle.graphql_standard.specs.Places.{IsPlaceAfter}
-use Rattle.graphql_standard.specs.Checking.{IsRightTo, IsErrorOf, place_of}
+use Rattle.graphql_standard.specs.Checking.{IsRightTo, IsErrorOfPart, place_of}
 use Rattle.graphql_standard.specs.AllErrors.{BeginsDefinition, HasErrors, no_error, last_error, more_errors}
 use Rattle.graphql_standard.specs.AllErrors.{IsRight, IsPartError, IsLastError, GoesOn}
 use Rattle.graphql_standard.specs.steps.Parts.{ArePlaces, AreApart, IsPart}
@@ -81,18 +81,18 @@ long_error : error.TooLong ≡ error.OutOfMemory → ⊥
 long_error h = cc
 
 pub syntax_in_source : (limit : ℕ) (source : List ℕ) (p : Part) (k : CheckError) (e : SyntaxError) (q : Place) → k ≡ error.Syntax e
-    → IsErrorOf limit p.text.now p.text.now k → IsPart source p → IsInSource p.start e.place q
+    → IsErrorOfPart limit p.text.now p.text.now k → IsPart source p → IsInSource p.start e.place q
     → IsPartError limit source p.text.now
     (error.Syntax (record { place = q; len = e.len; found = e.found; expected = e.expected }))
 syntax_in_source limit source p k e q is h part places =
-    let (ps, rest, right, wrong, expected) = subst (IsErrorOf limit p.text.now p.text.now) is h in
+    let (ps, rest, right, wrong, expected) = subst (IsErrorOfPart limit p.text.now p.text.now) is h in
     (syntax_error _, (ps, rest, right_in_source limit source p e.place q ps rest part right places, wrong, expected))
 
 pub deep_in_source : (limit : ℕ) (source : List ℕ) (p : Part) (k : CheckError) (e q : Place) → k ≡ error.TooDeep e
-    → IsErrorOf limit p.text.now p.text.now k → IsPart source p → IsInSource p.start e q
+    → IsErrorOfPart limit p.text.now p.text.now k → IsPart source p → IsInSource p.start e q
     → IsPartError limit source p.text.now (error.TooDeep q)
 deep_in_source limit source p k e q is h part places =
-    let (ps, rest, right, kind, bytes, after, begins, first, opens, full) = subst (IsErrorOf limit p.text.now p.text.now) is h in
+    let (ps, rest, right, kind, bytes, after, begins, first, opens, full) = subst (IsErrorOfPart limit p.text.now p.text.now) is h in
     let moved = right_in_source limit source p e q ps rest part right places in
     (deep_error q, (ps, rest, moved, kind, bytes, after, begins, first, opens, full))
 

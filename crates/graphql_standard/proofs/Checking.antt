@@ -113,11 +113,11 @@ none_read limit c is read o k = record {
 pub one_read : (limit : ℕ) (ts : List Token) (t : Token) (old new : Checker) → HasCheckedTokens limit ts old
     → HasRead (ts ++ t ∷ []) new.recognizer → BeginsDocument (ts ++ t ∷ []) → new.limit ≡ old.limit → Counts old.brackets t old.limit new.brackets
     → HasCheckedTokens limit (ts ++ t ∷ []) new
-one_read limit ts t old new h read begins same (o, k, room) = record {
+one_read limit ts t old new h read begins same (o, k, capacity) = record {
   limit_is = same ∙ h.limit_is;
   read = read;
   begins = begins;
-  within = within_next limit ts t h.within (λ is. let less = room is in omega (arith, less, h.openers_are, h.closers_are, h.limit_is));
+  within = within_next limit ts t h.within (λ is. let less = capacity is in omega (arith, less, h.openers_are, h.closers_are, h.limit_is));
   openers_are = omega (arith, o, h.openers_are, count_more is_opening ts t);
   closers_are = omega (arith, k, h.closers_are, count_more is_closing ts t);
 }

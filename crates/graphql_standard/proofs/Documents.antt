@@ -10,7 +10,7 @@ use Rattle.graphql_core.specs.grammar.Texts.{Text, InputEnds}
 use Rattle.graphql_core.specs.theory.Reading.{Outcome, Done, Fault, ReadsTo}
 use Rattle.graphql_core.specs.theory.Reading.{fails_first, fails_second, fails_neither, fails_turn, fails_later}
 use Rattle.graphql_core.specs.theory.Theorems.{IsExact}
-use Rattle.graphql_core.specs.theory.WholeTexts.{IsWhole, Tree, Rejected, Answers}
+use Rattle.graphql_core.specs.theory.WholeTexts.{IsWhole, Tree, Rejected, HasResult}
 use Rattle.graphql_core.proofs.grammar.FirstFault.{fits-lax}
 use Rattle.graphql_core.proofs.grammar.Exact.{grammar_exact}
 use Rattle.graphql_core.proofs.grammar.WholeTexts.{grammar_whole}
@@ -70,7 +70,7 @@ exact = grammar_exact standard refl refl (Sym symbol.document) refl refl
 -- some document begins with the tokens
 pub begins : (ts : List Token) (es : List Expr) → Alike standard (Sym symbol.document ∷ []) (ts ++ []) es []
     → Begins standard (Sym symbol.document) ts
-begins ts es at = of (exact.answers (ts ++ []))
+begins ts es at = of (exact.has_outcome (ts ++ []))
   where
     of : (o : Outcome) × ReadsTo standard (Sym symbol.document) (ts ++ []) o → Begins standard (Sym symbol.document) ts
     of (Done x us, r) =
@@ -157,9 +157,9 @@ pub unended : (ts : List Token) (es : List Expr) → LeadsTo ts es → EndsAs fa
 unfolding text
 unended ts es at (why, f) (x, d) =
     let g = only-fails standard (((at []).fails why []).1 f) in
-    let wrong : Answers standard (Sym symbol.document) (text ts) (Rejected why (length ts - 0)) =
+    let wrong : HasResult standard (Sym symbol.document) (text ts) (Rejected why (length ts - 0)) =
     (Fault why [], subst (λ (l : List Token). Fails standard (Sym symbol.document) l why []) (append-nil ts) g, refl) in
-    let right : Answers standard (Sym symbol.document) (text ts) (Tree x) = (whole.tree (text ts) x).1 (d, refl) in
+    let right : HasResult standard (Sym symbol.document) (text ts) (Tree x) = (whole.tree (text ts) x).1 (d, refl) in
     differ x why (length ts - 0) (whole.one (text ts) (Tree x) (Rejected why (length ts - 0)) right wrong)
 
 pub complete : (ts : List Token) (ss : List Symbol) (b : Bool) → IsAt ts ss → AtEnd b ss → IsTrue b ↔ IsDocument ts

@@ -108,19 +108,19 @@ not_deep limit ts us t opens full w =
     omega (arith, within, full, count_more is_opening ts t, count_more is_closing ts t, ap one_if opens, ap one_if (no_closing t opens))
 
 -- a document within the limit has no error
-pub only_memory : (limit : ℕ) (source : List ℕ) (e : CheckError) (ts : List Token) → IsCheckError limit source e → length source ≤ max_length
+pub only_out_of_memory : (limit : ℕ) (source : List ℕ) (e : CheckError) (ts : List Token) → IsCheckError limit source e → length source ≤ max_length
     → HasTokens source ts → IsDocument ts → IsWithin limit ts → e ≡ error.OutOfMemory
-only_memory limit source (error.Syntax x) ts (ps, rest, right, wrong, expected) short (qs, d, is) doc w =
+only_out_of_memory limit source (error.Syntax x) ts (ps, rest, right, wrong, expected) short (qs, d, is) doc w =
     let (more, all, left) = same_start source ps qs rest right.parts d in
     let whole = is ∙ (ap tokens_of all ∙ tokens_more ps more) in
     absurd (not_wrong (tokens_of ps) rest more x.found x.len wrong left (subst IsDocument whole doc))
-only_memory limit source (error.TooDeep p) ts (ps, rest, right, kind, bytes, after, begins, first, opens, full) short (qs, d, is) doc w =
+only_out_of_memory limit source (error.TooDeep p) ts (ps, rest, right, kind, bytes, after, begins, first, opens, full) short (qs, d, is) doc w =
     let (more, all, left) = same_start source ps qs rest right.parts d in
     let (us, next) = next_token rest more kind bytes after begins left in
     let whole = is ∙ (ap tokens_of all ∙ (tokens_more ps more ∙ ap (λ (l : List Token). tokens_of ps ++ l) next)) in
     absurd (not_deep limit (tokens_of ps) us (sample kind bytes) opens full (subst (IsWithin limit) whole w))
-only_memory limit source error.TooLong ts long short has doc w = absurd (omega (arith, long, short))
-only_memory limit source error.OutOfMemory ts e short has doc w = refl
+only_out_of_memory limit source error.TooLong ts long short has doc w = absurd (omega (arith, long, short))
+only_out_of_memory limit source error.OutOfMemory ts e short has doc w = refl
 
 -- ---- the next element
 
@@ -192,7 +192,7 @@ pub rejects : {A : Type 0} (limit : ℕ) (source : List ℕ) (e : CheckError) �
     → ChecksStandard {A = A} limit source (Err e)
 rejects {A} limit source e h long = record {
   sound = tt;
-  complete = λ ts short has d w. only_memory limit source e ts h short has d w;
+  complete = λ ts short has d w. only_out_of_memory limit source e ts h short has d w;
   unambiguous = λ ts x y has d f. exact.unambiguous ts x y d f;
   first_error = h;
   too_long = λ past. ap Err (long past);

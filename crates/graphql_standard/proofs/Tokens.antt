@@ -2,7 +2,7 @@
 use Rattle.std.proofs.Common.{◌≡◌, ◌∙◌, ap, subst, refl, arith, ℕ, Bool, true, false, if◌then◌else◌, List, [], ◌∷◌, ◌++◌, Result, Ok}
 use Rattle.std.proofs.lemmas.Bool.Decides.{nat_tests}
 use Rattle.std.specs.declared.alloc.AllocError.{AllocError}
-use Rattle.graphql_core.specs.{Token, Meaning, Ignored, TokenOf, Stands, is_listed}
+use Rattle.graphql_core.specs.{Token, Meaning, Ignored, TokenOf, IsLexicalElement, is_listed}
 use Rattle.graphql_core.specs.lexical.Elements.{element_kind}
 use Rattle.graphql_core.specs.lexical.Lexical.{is_punctuator_byte, punctuator_token, spread_token}
 use Rattle.graphql_core.specs.declared.tokenizer.token.Kind.{Kind}
@@ -23,7 +23,7 @@ use Rattle.graphql_standard.proofs.lexical.Elements.{InCore, in_core, a_number, 
 punctuator_listed : (b : ℕ) → is_punctuator_byte b ≡ true → is_listed (b ∷ []) punctuators ≡ true
 punctuator_listed b h = grind (arith, nat_tests)
 
-listed : {bytes rest : List ℕ} {n : Nesting} → Stands bytes (TokenOf Punctuator n) rest → is_listed bytes punctuators ≡ true
+listed : {bytes rest : List ℕ} {n : Nesting} → IsLexicalElement bytes (TokenOf Punctuator n) rest → is_listed bytes punctuators ≡ true
 listed (punctuator_token {b} is) = punctuator_listed b is
 listed spread_token = refl
 

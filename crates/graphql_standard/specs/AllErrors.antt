@@ -8,7 +8,7 @@ use Rattle.graphql_core.specs.declared.tokenizer.element.ElementKind.TheVariants
 use Rattle.graphql_standard.specs.lexical.Elements.{IsElement, BeginsNoneOf, BeginsWithOneOf}
 use Rattle.graphql_standard.specs.Places.{EndsInLineEnd}
 use Rattle.graphql_standard.specs.Recognizing.{IsDocument, BeginsDocument}
-use Rattle.graphql_standard.specs.Checking.{tokens_of, HasTokens, IsWithin, BeginsWithAll, IsErrorOf, place_of}
+use Rattle.graphql_standard.specs.Checking.{tokens_of, HasTokens, IsWithin, BeginsWithAll, IsErrorOfPart, place_of}
 use Rattle.graphql_standard.specs.declared.place.Place.{Place}
 use Rattle.graphql_standard.specs.declared.error.CheckError.{CheckError}
 use Rattle.graphql_standard.specs.declared.error.CheckError.TheVariants.{OutOfMemory}
@@ -76,7 +76,7 @@ HasNoDefinition source part offset = (end : List ℕ) → IsDefinition source pa
 
 -- the error of a part of the source; no allocation failed
 abbrev pub IsPartError : (limit : ℕ) (source part : List ℕ) → CheckError → Type 0
-IsPartError limit source part e = (e ≢ OutOfMemory) × IsErrorOf limit source part e
+IsPartError limit source part e = (e ≢ OutOfMemory) × IsErrorOfPart limit source part e
 
 -- a document in which at most `limit` brackets are open
 abbrev pub IsRight : (limit : ℕ) (part : List ℕ) → Type 0

@@ -130,14 +130,14 @@ place_of error.OutOfMemory = None
 -- ---- the result of checking a source
 
 -- the error of a part of a source; its place is in the source
-abbrev pub IsErrorOf : (limit : ℕ) (source part : List ℕ) → CheckError → Type 0
-IsErrorOf limit source part (error.Syntax e) = IsFirstError limit source part e
-IsErrorOf limit source part (error.TooDeep p) = IsTooDeepAt limit source part p
-IsErrorOf limit source part error.TooLong = max_length < length part
-IsErrorOf limit source part error.OutOfMemory = Unit {0}
+abbrev pub IsErrorOfPart : (limit : ℕ) (source part : List ℕ) → CheckError → Type 0
+IsErrorOfPart limit source part (error.Syntax e) = IsFirstError limit source part e
+IsErrorOfPart limit source part (error.TooDeep p) = IsTooDeepAt limit source part p
+IsErrorOfPart limit source part error.TooLong = max_length < length part
+IsErrorOfPart limit source part error.OutOfMemory = Unit {0}
 
 abbrev pub IsCheckError : (limit : ℕ) (source : List ℕ) → CheckError → Type 0
-IsCheckError limit source e = IsErrorOf limit source source e
+IsCheckError limit source e = IsErrorOfPart limit source source e
 
 pub record ChecksStandard {A : Type 0} (limit : ℕ) (source : List ℕ) (r : Result A CheckError) : Type 0 where
   -- Sound: a source that is accepted is a document of September 2025, in which at most `limit` brackets are open.

@@ -75,7 +75,7 @@ impl Recognizer {
 /// Pushes symbols, so that the first is on top.
 fn push_all(stack: &mut Vec<Symbol>, symbols: &[Symbol]) -> Result<(), AllocError>
     ensures items { IfOk result (λ r. stack.new.items ≡ stack.old.items ++ reverse symbols.now) }
-    ensures room { vec_len stack.old + length symbols.now ≤ vec_capacity stack.old → IsOk result }
+    ensures capacity { vec_len stack.old + length symbols.now ≤ vec_capacity stack.old → IsOk result }
 {
     for next in symbols.iter().rev().copied() {
         stack.push(next)?;

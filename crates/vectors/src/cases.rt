@@ -1,12 +1,12 @@
 //! Cases: an input, what to do with it, and the wanted result.
 use crate::languages::Language;
-use crate::told::Told;
+use crate::report::Report;
 
 /// What a case does with its input.
 #[derive(Clone, Copy)]
 pub enum Asked {
     /// Parse it as a document of a language, and report on the document.
-    Document(Language, Telling),
+    Document(Language, ReportKind),
     /// Parse each of its lines as a document of a language. No two of the documents are equal.
     Unlike(Language),
     /// Parse each of its prefixes as a document of a language.
@@ -36,7 +36,7 @@ pub enum Asked {
 
 /// What to report on a document.
 #[derive(Clone, Copy)]
-pub enum Telling {
+pub enum ReportKind {
     /// The document formatted in a style.
     StyleOptions { indent: u32, multiline: bool },
     /// The tree, as `Debug` shows it.
@@ -47,25 +47,25 @@ pub enum Telling {
 
 /// The wanted result of an input.
 #[derive(Clone, Copy)]
-pub enum Answer<'a> {
+pub enum WantedResult<'a> {
     /// This output.
     Text(&'a str),
     /// The input is accepted.
     Accepted,
     /// The input is rejected.
-    Refused,
+    Rejected,
     /// The input is rejected with this message.
     Message(&'a str),
 }
 
-impl Answer<'_> {
+impl WantedResult<'_> {
     /// Whether the report is the wanted result.
-    pub fn is_met(self, told: &Told) -> bool {
+    pub fn is_met(self, report: &Report) -> bool {
         match self {
-            Answer::Text(wanted) => !told.is_refusal() && told.text() == wanted,
-            Answer::Accepted => !told.is_refusal(),
-            Answer::Refused => told.is_refusal(),
-            Answer::Message(message) => told.is_refusal() && told.text() == message,
+            WantedResult::Text(wanted) => !report.is_error() && report.text() == wanted,
+            WantedResult::Accepted => !report.is_error(),
+            WantedResult::Rejected => report.is_error(),
+            WantedResult::Message(message) => report.is_error() && report.text() == message,
         }
     }
 }
@@ -75,19 +75,19 @@ impl Answer<'_> {
 pub struct Case<'a> {
     pub asked: Asked,
     pub source: &'a str,
-    pub answer: Answer<'a>,
+    pub wanted_result: WantedResult<'a>,
 }
 
 impl Case<'_> {
     /// Whether the report is the wanted result. A wanted tree can have line ends in place of spaces.
-    pub fn is_met(&self, told: &Told) -> bool {
-        if told.is_wrong() {
+    pub fn is_met(&self, report: &Report) -> bool {
+        if report.is_wrong() {
             return false;
         }
-        match (self.asked, self.answer) {
-            (Asked::Document(_, Telling::Tree), Answer::Text(lines)) => !told.is_refusal()
-                && is_in_lines(told.text(), lines),
-            _ => self.answer.is_met(told),
+        match (self.asked, self.wanted_result) {
+            (Asked::Document(_, ReportKind::Tree), WantedResult::Text(lines)) => !report.is_error()
+                && is_in_lines(report.text(), lines),
+            _ => self.wanted_result.is_met(report),
         }
     }
 }
@@ -107,24 +107,24 @@ fn sized<'a>(text: &'a str, length: &str) -> Option<(&'a str, &'a str)> {
 }
 
 /// The language and the report that a word asks for, with `indent` spaces a level.
-fn read_telling(word: &str, indent: u32) -> Option<(Language, Telling)> {
-    let lines = Telling::StyleOptions {
+fn read_report_kind(word: &str, indent: u32) -> Option<(Language, ReportKind)> {
+    let lines = ReportKind::StyleOptions {
         indent,
         multiline: true,
     };
-    let layout = Telling::StyleOptions {
+    let layout = ReportKind::StyleOptions {
         indent,
         multiline: false,
     };
     match word {
         "query" => Some((Language::Query, layout)),
         "lines" => Some((Language::Query, lines)),
-        "tree" => Some((Language::Query, Telling::Tree)),
-        "parts" => Some((Language::Query, Telling::Parts)),
+        "tree" => Some((Language::Query, ReportKind::Tree)),
+        "parts" => Some((Language::Query, ReportKind::Parts)),
         "schema" => Some((Language::Schema, layout)),
         "schema-lines" => Some((Language::Schema, lines)),
-        "schema-tree" => Some((Language::Schema, Telling::Tree)),
-        "schema-parts" => Some((Language::Schema, Telling::Parts)),
+        "schema-tree" => Some((Language::Schema, ReportKind::Tree)),
+        "schema-parts" => Some((Language::Schema, ReportKind::Parts)),
         _ => None,
     }
 }
@@ -160,30 +160,30 @@ fn read_asked(line: &str) -> Option<(Asked, &str)> {
         Some((length, number)) => (length, Some(number.parse::<u32>().ok()?)),
         None => (numbers, None),
     };
-    let asked = match read_telling(word, number.unwrap_or(2)) {
-        Some((language, telling)) => Asked::Document(language, telling),
+    let asked = match read_report_kind(word, number.unwrap_or(2)) {
+        Some((language, report_kind)) => Asked::Document(language, report_kind),
         None => read_word(word, number.unwrap_or(0))?,
     };
     Some((asked, length))
 }
 
 /// The wanted result at the front of `text`, and what follows.
-fn read_answer<'a>(text: &'a str) -> Option<(Answer<'a>, &'a str)> {
+fn read_wanted<'a>(text: &'a str) -> Option<(WantedResult<'a>, &'a str)> {
     let (words, after) = text.split_once('\n')?;
     match words {
-        "refused" => Some((Answer::Refused, after)),
-        "accepted" => Some((Answer::Accepted, after)),
-        _ => read_sized_answer(words, after),
+        "refused" => Some((WantedResult::Rejected, after)),
+        "accepted" => Some((WantedResult::Accepted, after)),
+        _ => read_sized_wanted(words, after),
     }
 }
 
 /// The same for a result with a length.
-fn read_sized_answer<'a>(words: &str, after: &'a str) -> Option<(Answer<'a>, &'a str)> {
+fn read_sized_wanted<'a>(words: &str, after: &'a str) -> Option<(WantedResult<'a>, &'a str)> {
     let (word, length) = words.split_once(' ')?;
     let (text, after) = sized(after, length)?;
     match word {
-        "ok" => Some((Answer::Text(text), after)),
-        "refused" => Some((Answer::Message(text), after)),
+        "ok" => Some((WantedResult::Text(text), after)),
+        "refused" => Some((WantedResult::Message(text), after)),
         _ => None,
     }
 }
@@ -201,11 +201,11 @@ pub fn next_case<'a>(text: &'a str) -> Option<(Case<'a>, &'a str)> {
     let (line, after) = past_heading(text).split_once('\n')?;
     let (asked, length) = read_asked(line)?;
     let (source, after) = sized(after, length)?;
-    let (answer, after) = read_answer(after)?;
+    let (wanted_result, after) = read_wanted(after)?;
     let case = Case {
         asked,
         source,
-        answer,
+        wanted_result,
     };
     Some((case, after))
 }

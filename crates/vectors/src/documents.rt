@@ -1,29 +1,39 @@
 //! Inputs that are documents of a language: their layouts, trees and parts, and which are equal.
-use crate::cases::Telling;
-use crate::languages::{Language, are_equal, told_static, told_with};
+use crate::cases::ReportKind;
+use crate::languages::{Language, are_equal, report_static, report_with};
 use crate::owned::Owned;
-use crate::told::Told;
+use crate::report::Report;
 use std::alloc::Global;
 use std::borrow::CowStr;
 
 /// The report on the document of an input, which must be the same with names of each text type, and of the document
 /// made static.
-pub fn told_of(alloc: Global, language: Language, source: &str, telling: Telling) -> Told {
-    let mut told = told_with::<&str>(alloc, language, source, telling);
-    told.compare(&told_with::<String>(alloc, language, source, telling));
-    told.compare(&told_with::<CowStr>(alloc, language, source, telling));
-    told.compare(&told_with::<Owned>(alloc, language, source, telling));
-    told.compare(&told_static(alloc, language, source, telling));
-    told
+pub fn report_of(
+    alloc: Global,
+    language: Language,
+    source: &str,
+    report_kind: ReportKind,
+) -> Report {
+    let mut whole = report_with::<&str>(alloc, language, source, report_kind);
+    whole.compare(&report_with::<String>(alloc, language, source, report_kind));
+    whole.compare(&report_with::<CowStr>(alloc, language, source, report_kind));
+    whole.compare(&report_with::<Owned>(alloc, language, source, report_kind));
+    whole.compare(&report_static(alloc, language, source, report_kind));
+    whole
 }
 
 /// The report on a formatted document. In both styles and with three indentations, the output must parse back.
-pub fn told_of_layouts(alloc: Global, language: Language, source: &str, telling: Telling) -> Told {
-    let mut told = told_of(alloc, language, source, telling);
-    let tree = told_with::<&str>(alloc, language, source, Telling::Tree);
-    told.follow(&tree);
-    if tree.is_refusal() {
-        return told;
+pub fn report_of_layouts(
+    alloc: Global,
+    language: Language,
+    source: &str,
+    report_kind: ReportKind,
+) -> Report {
+    let mut whole = report_of(alloc, language, source, report_kind);
+    let tree = report_with::<&str>(alloc, language, source, ReportKind::Tree);
+    whole.follow(&tree);
+    if tree.is_error() {
+        return whole;
     }
     for (indent, multiline) in [
         (0, false),
@@ -33,23 +43,29 @@ pub fn told_of_layouts(alloc: Global, language: Language, source: &str, telling:
         (2, true),
         (7, true),
     ] {
-        let telling = Telling::StyleOptions { indent, multiline };
-        let layout = told_with::<&str>(alloc, language, source, telling);
-        read_back(&mut told, language, &tree, &layout, telling);
+        let report_kind = ReportKind::StyleOptions { indent, multiline };
+        let layout = report_with::<&str>(alloc, language, source, report_kind);
+        parses_back(&mut whole, language, &tree, &layout, report_kind);
     }
-    told
+    whole
 }
 
 /// Checks that a layout parses back to the tree, ignoring positions, and that formatting is idempotent.
-fn read_back(told: &mut Told, language: Language, tree: &Told, layout: &Told, telling: Telling) {
-    let mut again = told_with::<&str>(told.alloc, language, layout.text(), telling);
+fn parses_back(
+    whole: &mut Report,
+    language: Language,
+    tree: &Report,
+    layout: &Report,
+    report_kind: ReportKind,
+) {
+    let mut again = report_with::<&str>(whole.alloc, language, layout.text(), report_kind);
     again.compare(layout);
-    let read = told_with::<&str>(told.alloc, language, layout.text(), Telling::Tree);
-    told.follow(tree);
-    told.follow(&again);
-    told.follow(&read);
+    let read = report_with::<&str>(whole.alloc, language, layout.text(), ReportKind::Tree);
+    whole.follow(tree);
+    whole.follow(&again);
+    whole.follow(&read);
     if again.text() != layout.text() || !are_like(tree.text(), read.text()) {
-        told.find_wrong();
+        whole.find_wrong();
     }
 }
 
@@ -89,33 +105,33 @@ fn are_equal_in_each(alloc: Global, language: Language, one: &str, other: &str) 
 }
 
 /// Checks that each line is a document, equal to that of the same line and of no other. Nothing is reported.
-pub fn told_of_lines(alloc: Global, language: Language, lines: &str) -> Told {
-    let mut told = Told::new(alloc);
+pub fn report_of_lines(alloc: Global, language: Language, lines: &str) -> Report {
+    let mut whole = Report::new(alloc);
     for (i, line) in lines.split('\n').enumerate() {
         for (k, other) in lines.split('\n').enumerate() {
             if are_equal_in_each(alloc, language, line, other) != Some(i == k) {
-                told.find_wrong();
+                whole.find_wrong();
             }
         }
     }
-    told
+    whole
 }
 
 /// Reports a line for each prefix that is a document: its length. The documents must parse back, as above.
-pub fn told_of_prefixes(alloc: Global, language: Language, source: &str) -> Told {
-    let mut told = Told::new(alloc);
-    let layout = Telling::StyleOptions {
+pub fn report_of_prefixes(alloc: Global, language: Language, source: &str) -> Report {
+    let mut whole = Report::new(alloc);
+    let layout = ReportKind::StyleOptions {
         indent: 2,
         multiline: false,
     };
     for length in 0..=source.len() {
         if let Some((prefix, _)) = source.split_at_checked(length) {
-            let report = told_of_layouts(alloc, language, prefix, layout);
-            told.follow(&report);
-            if !report.is_refusal() {
-                told.show_line(&length);
+            let report = report_of_layouts(alloc, language, prefix, layout);
+            whole.follow(&report);
+            if !report.is_error() {
+                whole.show_line(&length);
             }
         }
     }
-    told
+    whole
 }

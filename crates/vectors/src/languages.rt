@@ -1,6 +1,6 @@
 //! The languages of documents: queries and schemas.
-use crate::cases::Telling;
-use crate::told::Told;
+use crate::cases::ReportKind;
+use crate::report::Report;
 use crate::{parts, schema_parts};
 use graphql_parser::common::Text;
 use graphql_parser::tokenizer::TokenStream;
@@ -15,38 +15,51 @@ pub enum Language {
 }
 
 /// The report on the document of an input, with names of a text type.
-pub fn told_with<'a, T: Text<'a>>(
+pub fn report_with<'a, T: Text<'a>>(
     alloc: Global,
     language: Language,
     source: &'a str,
-    telling: Telling,
-) -> Told {
+    report_kind: ReportKind,
+) -> Report {
     match language {
-        Language::Query => told_as::<query::Document<'a, T>>(alloc, source, telling),
-        Language::Schema => told_as::<schema::Document<'a, T>>(alloc, source, telling),
+        Language::Query => report_as::<query::Document<'a, T>>(alloc, source, report_kind),
+        Language::Schema => report_as::<schema::Document<'a, T>>(alloc, source, report_kind),
     }
 }
 
 /// The report on the document of an input, with owned names and made static.
-pub fn told_static(alloc: Global, language: Language, source: &str, telling: Telling) -> Told {
+pub fn report_static(
+    alloc: Global,
+    language: Language,
+    source: &str,
+    report_kind: ReportKind,
+) -> Report {
     match language {
-        Language::Query => told_static_as::<query::Document<'_, String>>(alloc, source, telling),
-        Language::Schema => told_static_as::<schema::Document<'_, String>>(alloc, source, telling),
+        Language::Query => report_static_as::<query::Document<'_, String>>(
+            alloc,
+            source,
+            report_kind,
+        ),
+        Language::Schema => report_static_as::<schema::Document<'_, String>>(
+            alloc,
+            source,
+            report_kind,
+        ),
     }
 }
 
 /// Reports the error of parsing an input as a document.
-fn tell_error_as<'a, D: Document<'a>>(told: &mut Told, source: &'a str) {
-    if let Err(error) = D::parse(told.alloc, source) {
-        told.refuse_as(&error);
+fn report_error_as<'a, D: Document<'a>>(report: &mut Report, source: &'a str) {
+    if let Err(error) = D::parse(report.alloc, source) {
+        report.reject_as(&error);
     }
 }
 
 /// The same, as a document of a language.
-pub fn tell_error(told: &mut Told, language: Language, source: &str) {
+pub fn report_error(report: &mut Report, language: Language, source: &str) {
     match language {
-        Language::Query => tell_error_as::<query::Document<'_, &str>>(told, source),
-        Language::Schema => tell_error_as::<schema::Document<'_, &str>>(told, source),
+        Language::Query => report_error_as::<query::Document<'_, &str>>(report, source),
+        Language::Schema => report_error_as::<schema::Document<'_, &str>>(report, source),
     }
 }
 
@@ -64,7 +77,7 @@ pub fn are_equal<'a, T: Text<'a>>(
 }
 
 /// Why an input is rejected.
-pub trait Refusal: Debug + Display + Drop {
+pub trait ParseFailure: Debug + Display + Drop {
     /// The position of the error.
     fn position(&self) -> Option<Pos>;
 
@@ -72,7 +85,7 @@ pub trait Refusal: Debug + Display + Drop {
     fn cause(&self) -> &Cause;
 }
 
-impl Refusal for query::ParseError {
+impl ParseFailure for query::ParseError {
     fn position(&self) -> Option<Pos> {
         query::ParseError::position(self)
     }
@@ -82,7 +95,7 @@ impl Refusal for query::ParseError {
     }
 }
 
-impl Refusal for schema::ParseError {
+impl ParseFailure for schema::ParseError {
     fn position(&self) -> Option<Pos> {
         schema::ParseError::position(self)
     }
@@ -92,7 +105,7 @@ impl Refusal for schema::ParseError {
     }
 }
 
-impl Refusal for query::MinifyError {
+impl ParseFailure for query::MinifyError {
     fn position(&self) -> Option<Pos> {
         query::MinifyError::position(self)
     }
@@ -105,7 +118,7 @@ impl Refusal for query::MinifyError {
 /// A document of a language, with names of a text type.
 pub trait Document<'a>: Clone + PartialEq + Debug + Drop {
     /// Why an input is not a document.
-    type Error: Refusal;
+    type Error: ParseFailure;
 
     /// Parses an input.
     fn parse(alloc: Global, source: &'a str) -> Result<Self, Self::Error>;
@@ -114,10 +127,10 @@ pub trait Document<'a>: Clone + PartialEq + Debug + Drop {
     fn parse_rest(alloc: Global, stream: &mut TokenStream<'a>) -> Option<Result<Self, Self::Error>>;
 
     /// The document formatted in a style.
-    fn laid_out(&self, alloc: Global, style: &Style) -> Result<String, FormatError>;
+    fn formatted(&self, alloc: Global, style: &Style) -> Result<String, FormatError>;
 
     /// Reports the document and its parts.
-    fn tell_parts(&self, told: &mut Told);
+    fn report_parts(&self, report: &mut Report);
 }
 
 /// A document with owned names.
@@ -127,47 +140,59 @@ trait Owning<'a>: Document<'a> {
 }
 
 /// The report on the document of an input. The clone of the document must be equal.
-fn told_as<'a, D: Document<'a>>(alloc: Global, source: &'a str, telling: Telling) -> Told {
-    let mut told = Told::new(alloc);
+fn report_as<'a, D: Document<'a>>(
+    alloc: Global,
+    source: &'a str,
+    report_kind: ReportKind,
+) -> Report {
+    let mut report = Report::new(alloc);
     match D::parse(alloc, source) {
         Ok(document) => {
-            compare_with_copy(&mut told, &document);
-            tell(&mut told, &document, telling);
+            compare_with_copy(&mut report, &document);
+            report_document(&mut report, &document, report_kind);
         }
-        Err(error) => told.refuse_at(&error),
+        Err(error) => report.reject_at(&error),
     }
-    told
+    report
 }
 
 /// The report on the document of an input, made static. A clone that was made before must be equal.
-fn told_static_as<'a, D: Owning<'a>>(alloc: Global, source: &'a str, telling: Telling) -> Told {
-    let mut told = Told::new(alloc);
+fn report_static_as<'a, D: Owning<'a>>(
+    alloc: Global,
+    source: &'a str,
+    report_kind: ReportKind,
+) -> Report {
+    let mut report = Report::new(alloc);
     match D::parse(alloc, source) {
-        Ok(document) => tell_static(&mut told, document, telling),
-        Err(error) => told.refuse_at(&error),
+        Ok(document) => report_made_static(&mut report, document, report_kind),
+        Err(error) => report.reject_at(&error),
     }
-    told
+    report
 }
 
 /// Reports on a document made static what is asked for.
-fn tell_static<'a, D: Owning<'a>>(told: &mut Told, document: D, telling: Telling) {
+fn report_made_static<'a, D: Owning<'a>>(
+    report: &mut Report,
+    document: D,
+    report_kind: ReportKind,
+) {
     let copy: Result<D, AllocError> = document.clone();
-    let (Ok(copy), Ok(made)) = (copy, document.made_static(told.alloc)) else {
-        told.cut_short();
+    let (Ok(copy), Ok(made)) = (copy, document.made_static(report.alloc)) else {
+        report.cut_short();
         return;
     };
     if copy != made {
-        told.find_wrong();
+        report.find_wrong();
     }
-    tell(told, &made, telling);
+    report_document(report, &made, report_kind);
 }
 
 /// Marks the report as wrong if the clone of a document is not equal.
-fn compare_with_copy<'a, D: Document<'a>>(told: &mut Told, document: &D) {
+fn compare_with_copy<'a, D: Document<'a>>(report: &mut Report, document: &D) {
     match document.clone() {
         Ok(copy) if copy == *document => {}
-        Ok(_) => told.find_wrong(),
-        Err(_) => told.cut_short(),
+        Ok(_) => report.find_wrong(),
+        Err(_) => report.cut_short(),
     }
 }
 
@@ -179,13 +204,17 @@ fn are_equal_as<'a, D: Document<'a>>(alloc: Global, one: &'a str, other: &'a str
 }
 
 /// Reports on a document what is asked for.
-fn tell<'a, D: Document<'a>>(told: &mut Told, document: &D, telling: Telling) {
-    match telling {
-        Telling::StyleOptions { indent, multiline } => {
-            told.tell_answer(&document.laid_out(told.alloc, &style_of(indent, multiline)));
+fn report_document<'a, D: Document<'a>>(
+    report: &mut Report,
+    document: &D,
+    report_kind: ReportKind,
+) {
+    match report_kind {
+        ReportKind::StyleOptions { indent, multiline } => {
+            report.append_result(&document.formatted(report.alloc, &style_of(indent, multiline)));
         }
-        Telling::Tree => told.show_debug(document),
-        Telling::Parts => document.tell_parts(told),
+        ReportKind::Tree => report.show_debug(document),
+        ReportKind::Parts => document.report_parts(report),
     }
 }
 
@@ -213,12 +242,12 @@ impl<'a, T: Text<'a>> Document<'a> for query::Document<'a, T> {
         Some(query::parse_query_from(alloc, stream))
     }
 
-    fn laid_out(&self, alloc: Global, style: &Style) -> Result<String, FormatError> {
+    fn formatted(&self, alloc: Global, style: &Style) -> Result<String, FormatError> {
         self.format(alloc, style)
     }
 
-    fn tell_parts(&self, told: &mut Told) {
-        parts::tell_parts(told, self);
+    fn report_parts(&self, report: &mut Report) {
+        parts::report_parts(report, self);
     }
 }
 
@@ -239,12 +268,12 @@ impl<'a, T: Text<'a>> Document<'a> for schema::Document<'a, T> {
         Some(schema::parse_schema_from(alloc, stream))
     }
 
-    fn laid_out(&self, alloc: Global, style: &Style) -> Result<String, FormatError> {
+    fn formatted(&self, alloc: Global, style: &Style) -> Result<String, FormatError> {
         self.format(alloc, style)
     }
 
-    fn tell_parts(&self, told: &mut Told) {
-        schema_parts::tell_parts(told, self);
+    fn report_parts(&self, report: &mut Report) {
+        schema_parts::report_parts(report, self);
     }
 }
 

@@ -1,8 +1,8 @@
 //! `vectors`: replays cases, and prints how many of the results are those that the cases want.
 //!
 //! The cases are on standard input, one after another. All lengths are in bytes. A case begins with a line with a word
-//! and a length, then an input of that length, and LF. Then comes a line `ok` or `refused` with a length, and the
-//! wanted output or message of that length, and LF. Or there is only a line `accepted` or `refused`. A heading, which
+//! and a length, then an input of that length, and LF. Then comes a line `ok` or `rejected` with a length, and the
+//! wanted output or message of that length, and LF. Or there is only a line `accepted` or `rejected`. A heading, which
 //! is a line that begins with `#`, can come before a case. The words are
 //!
 //! - `query` and `lines`: the input is a query document, and wanted is the formatted document, under `lines` in
@@ -37,69 +37,70 @@ mod documents;
 mod languages;
 mod owned;
 mod parts;
+mod report;
 mod schema_parts;
 mod streams;
 mod tokens;
-mod told;
 
-use crate::cases::{Asked, Case, Telling, next_case};
-use crate::definitions::told_of_first;
-use crate::documents::{told_of, told_of_layouts, told_of_lines, told_of_prefixes};
-use crate::languages::tell_error;
-use crate::streams::told_of_rest;
+use crate::cases::{Asked, Case, ReportKind, next_case};
+use crate::definitions::report_of_first;
+use crate::documents::{report_of, report_of_layouts, report_of_lines, report_of_prefixes};
+use crate::languages::report_error;
+use crate::report::Report;
+use crate::streams::report_of_rest;
 use crate::tokens::{
-    tell_block, tell_float, tell_items, tell_minify_error, tell_quoted, tell_string,
-    told_of_minifying,
+    report_block, report_float, report_items, report_minify_error, report_of_minifying,
+    report_quoted, report_string,
 };
-use crate::told::Told;
 use std::alloc::Global;
 use std::io;
 use std::process::ExitCode;
 
 /// Makes as many boxes as a number says, one after another.
-fn tell_boxes(told: &mut Told, number: &str) {
+fn report_boxes(report: &mut Report, number: &str) {
     match number.parse::<u32>() {
         Ok(count) => {
             for _ in 0..count {
-                drop(Box::new(told.alloc, 0u32));
+                drop(Box::new(report.alloc, 0u32));
             }
         }
-        Err(_) => told.refuse(&"no number"),
+        Err(_) => report.reject(&"no number"),
     }
 }
 
 /// The report on the tokens of an input, on the value of one, or on an error.
-fn told_of_tokens(alloc: Global, source: &str, asked: Asked) -> Told {
-    let mut told = Told::new(alloc);
+fn report_of_tokens(alloc: Global, source: &str, asked: Asked) -> Report {
+    let mut report = Report::new(alloc);
     match asked {
-        Asked::Quoted => tell_quoted(&mut told, source),
-        Asked::Block => tell_block(&mut told, source),
-        Asked::StringValue => tell_string(&mut told, source),
-        Asked::Error(language) => tell_error(&mut told, language, source),
-        Asked::MinifyError => tell_minify_error(&mut told, source),
-        Asked::Float => tell_float(&mut told, source),
-        Asked::Boxes => tell_boxes(&mut told, source),
-        _ => tell_items(&mut told, source),
+        Asked::Quoted => report_quoted(&mut report, source),
+        Asked::Block => report_block(&mut report, source),
+        Asked::StringValue => report_string(&mut report, source),
+        Asked::Error(language) => report_error(&mut report, language, source),
+        Asked::MinifyError => report_minify_error(&mut report, source),
+        Asked::Float => report_float(&mut report, source),
+        Asked::Boxes => report_boxes(&mut report, source),
+        _ => report_items(&mut report, source),
     }
-    told
+    report
 }
 
 /// The report on the input of a case.
-fn told_of_case(alloc: Global, case: &Case<'_>) -> Told {
+fn report_of_case(alloc: Global, case: &Case<'_>) -> Report {
     match case.asked {
-        Asked::Document(language, telling @ Telling::StyleOptions { .. }) => told_of_layouts(
+        Asked::Document(language, report_kind @ ReportKind::StyleOptions { .. }) =>
+            report_of_layouts(alloc, language, case.source, report_kind),
+        Asked::Document(language, report_kind) => report_of(
             alloc,
             language,
             case.source,
-            telling,
+            report_kind,
         ),
-        Asked::Document(language, telling) => told_of(alloc, language, case.source, telling),
-        Asked::Unlike(language) => told_of_lines(alloc, language, case.source),
-        Asked::Prefixes(language) => told_of_prefixes(alloc, language, case.source),
-        Asked::First => told_of_first(alloc, case.source),
-        Asked::Rest(language, tokens) => told_of_rest(alloc, language, case.source, tokens),
-        Asked::Minify => told_of_minifying(alloc, case.source),
-        _ => told_of_tokens(alloc, case.source, case.asked),
+        Asked::Unlike(language) => report_of_lines(alloc, language, case.source),
+        Asked::Prefixes(language) => report_of_prefixes(alloc, language, case.source),
+        Asked::First => report_of_first(alloc, case.source),
+        Asked::Rest(language, tokens) => report_of_rest(alloc, language, case.source, tokens),
+        Asked::Minify => report_of_minifying(alloc, case.source),
+        _ => report_of_tokens(alloc, case.source, case.asked),
     }
 }
 
@@ -114,11 +115,11 @@ struct Tally {
 impl Tally {
     /// Counts a case.
     fn add(&mut self, alloc: Global, case: &Case<'_>) {
-        let told = told_of_case(alloc, case);
+        let report = report_of_case(alloc, case);
         self.all = self.all.saturating_add(1);
-        if told.is_cut_short() {
+        if report.is_cut_short() {
             self.cut_short = self.cut_short.saturating_add(1);
-        } else if case.is_met(&told) {
+        } else if case.is_met(&report) {
             self.agreeing = self.agreeing.saturating_add(1);
         }
     }

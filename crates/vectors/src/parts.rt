@@ -1,99 +1,99 @@
 //! The parts of documents, each as `Display` shows it.
-use crate::told::Told;
+use crate::report::Report;
 use graphql_parser::query::{
     Definition, Directive, Document, Names, OperationDefinition, Selection, SelectionSet,
     VariableDefinition,
 };
 
-fn tell_directives<N: Names>(told: &mut Told, directives: &[Directive<'_, N>]) {
+fn report_directives<N: Names>(report: &mut Report, directives: &[Directive<'_, N>]) {
     for directive in directives {
-        told.show_line(directive);
+        report.show_line(directive);
     }
 }
 
 /// Reports a selection, the values of a field's arguments, the condition of an inline fragment, and the directives.
-fn tell_selection<N: Names>(told: &mut Told, selection: &Selection<'_, N>) {
+fn report_selection<N: Names>(report: &mut Report, selection: &Selection<'_, N>) {
     match selection {
         Selection::Field(field) => {
-            told.show_line(field);
+            report.show_line(field);
             for (_, value) in field.arguments.iter() {
-                told.show_line(value);
+                report.show_line(value);
             }
-            tell_directives(told, &field.directives);
+            report_directives(report, &field.directives);
         }
         Selection::FragmentSpread(spread) => {
-            told.show_line(spread);
-            tell_directives(told, &spread.directives);
+            report.show_line(spread);
+            report_directives(report, &spread.directives);
         }
         Selection::InlineFragment(inline) => {
-            told.show_line(inline);
+            report.show_line(inline);
             if let Some(condition) = &inline.type_condition {
-                told.show_line(condition);
+                report.show_line(condition);
             }
-            tell_directives(told, &inline.directives);
+            report_directives(report, &inline.directives);
         }
     }
 }
 
 /// Reports a selection set, and each of its selections.
-fn tell_set<N: Names>(told: &mut Told, set: &SelectionSet<'_, N>) {
-    told.show_line(set);
+fn report_set<N: Names>(report: &mut Report, set: &SelectionSet<'_, N>) {
+    report.show_line(set);
     for selection in set.items.iter() {
-        tell_selection(told, selection);
+        report_selection(report, selection);
     }
 }
 
 /// Reports each variable, its type, its default value, and its directives.
-fn tell_variables<N: Names>(told: &mut Told, variables: &[VariableDefinition<'_, N>]) {
+fn report_variables<N: Names>(report: &mut Report, variables: &[VariableDefinition<'_, N>]) {
     for variable in variables {
-        told.show_line(variable);
-        told.show_line(&variable.var_type);
+        report.show_line(variable);
+        report.show_line(&variable.var_type);
         if let Some(value) = &variable.default_value {
-            told.show_line(value);
+            report.show_line(value);
         }
-        tell_directives(told, &variable.directives);
+        report_directives(report, &variable.directives);
     }
 }
 
 /// Reports a query, a mutation or a subscription, and its parts.
-macro_rules! tell_named {
-    ($told:expr, $operation:expr) => {{
-        $told.show_line($operation);
-        tell_variables($told, &$operation.variable_definitions);
-        tell_directives($told, &$operation.directives);
-        tell_set($told, &$operation.selection_set);
+macro_rules! report_named {
+    ($report:expr, $operation:expr) => {{
+        $report.show_line($operation);
+        report_variables($report, &$operation.variable_definitions);
+        report_directives($report, &$operation.directives);
+        report_set($report, &$operation.selection_set);
     }};
 }
 
 /// Reports an operation, the variant that is in it, and its parts.
-fn tell_operation<N: Names>(told: &mut Told, operation: &OperationDefinition<'_, N>) {
-    told.show_line(operation);
+fn report_operation<N: Names>(report: &mut Report, operation: &OperationDefinition<'_, N>) {
+    report.show_line(operation);
     match operation {
-        OperationDefinition::SelectionSet(set) => tell_set(told, set),
-        OperationDefinition::Query(query) => tell_named!(told, query),
-        OperationDefinition::Mutation(mutation) => tell_named!(told, mutation),
-        OperationDefinition::Subscription(subscription) => tell_named!(told, subscription),
+        OperationDefinition::SelectionSet(set) => report_set(report, set),
+        OperationDefinition::Query(query) => report_named!(report, query),
+        OperationDefinition::Mutation(mutation) => report_named!(report, mutation),
+        OperationDefinition::Subscription(subscription) => report_named!(report, subscription),
     }
 }
 
 /// Reports a definition, the variant that is in it, and its parts.
-fn tell_definition<N: Names>(told: &mut Told, definition: &Definition<'_, N>) {
-    told.show_line(definition);
+fn report_definition<N: Names>(report: &mut Report, definition: &Definition<'_, N>) {
+    report.show_line(definition);
     match definition {
-        Definition::Operation(operation) => tell_operation(told, operation),
+        Definition::Operation(operation) => report_operation(report, operation),
         Definition::Fragment(fragment) => {
-            told.show_line(fragment);
-            told.show_line(&fragment.type_condition);
-            tell_directives(told, &fragment.directives);
-            tell_set(told, &fragment.selection_set);
+            report.show_line(fragment);
+            report.show_line(&fragment.type_condition);
+            report_directives(report, &fragment.directives);
+            report_set(report, &fragment.selection_set);
         }
     }
 }
 
 /// Reports a document and its parts down to the first selections, one after another.
-pub fn tell_parts<N: Names>(told: &mut Told, document: &Document<'_, N>) {
-    told.show(document);
+pub fn report_parts<N: Names>(report: &mut Report, document: &Document<'_, N>) {
+    report.show(document);
     for definition in document.definitions.iter() {
-        tell_definition(told, definition);
+        report_definition(report, definition);
     }
 }

@@ -1,5 +1,5 @@
 //! The tokens of inputs, and the values of tokens.
-use crate::told::Told;
+use crate::report::Report;
 use graphql_parser::common::{FloatLiteral, unquote_block_string, unquote_string};
 use graphql_parser::query::{
     Definition, Document, OperationDefinition, Selection, Value, parse_query,
@@ -9,78 +9,78 @@ use graphql_parser::{Cause, minify_query};
 use std::alloc::Global;
 
 /// The report on a minified input.
-fn told_of_minified(alloc: Global, source: &str) -> Told {
-    let mut told = Told::new(alloc);
+fn report_of_minified(alloc: Global, source: &str) -> Report {
+    let mut report = Report::new(alloc);
     let Ok(source) = String::from_str(alloc, source) else {
-        told.cut_short();
-        return told;
+        report.cut_short();
+        return report;
     };
-    told.tell_answer(&minify_query(alloc, source));
-    told
+    report.append_result(&minify_query(alloc, source));
+    report
 }
 
 /// The same. Minifying must be idempotent.
-pub fn told_of_minifying(alloc: Global, source: &str) -> Told {
-    let mut told = told_of_minified(alloc, source);
-    if !told.is_refusal() {
-        let again = told_of_minified(alloc, told.text());
-        told.compare(&again);
+pub fn report_of_minifying(alloc: Global, source: &str) -> Report {
+    let mut report = report_of_minified(alloc, source);
+    if !report.is_error() {
+        let again = report_of_minified(alloc, report.text());
+        report.compare(&again);
     }
-    told
+    report
 }
 
 /// Reports the error of minifying an input.
-pub fn tell_minify_error(told: &mut Told, source: &str) {
-    let Ok(source) = String::from_str(told.alloc, source) else {
-        told.cut_short();
+pub fn report_minify_error(report: &mut Report, source: &str) {
+    let Ok(source) = String::from_str(report.alloc, source) else {
+        report.cut_short();
         return;
     };
-    if let Err(error) = minify_query(told.alloc, source) {
-        told.refuse_as(&error);
+    if let Err(error) = minify_query(report.alloc, source) {
+        report.reject_as(&error);
     }
 }
 
 /// Reports the position and the offset of the next token, and how many brackets are open before it.
-fn tell_place(told: &mut Told, stream: &TokenStream<'_>) {
-    told.show(&stream.position());
-    told.tell(" ");
-    told.show(&stream.offset());
-    told.tell(" ");
-    told.show(&stream.depth());
-    told.tell(" ");
+fn report_place(report: &mut Report, stream: &TokenStream<'_>) {
+    report.show(&stream.position());
+    report.append(" ");
+    report.show(&stream.offset());
+    report.append(" ");
+    report.show(&stream.depth());
+    report.append(" ");
 }
 
 /// Reports the last result of the stream: the end or the lexical error.
-fn tell_last_item(told: &mut Told, last: &Result<Option<Token<'_>>, Bad<'_>>) {
+fn report_last_item(report: &mut Report, last: &Result<Option<Token<'_>>, Bad<'_>>) {
     match last {
-        Ok(_) => told.tell("end"),
-        Err(bad) => told.show_debug(bad),
+        Ok(_) => report.append("end"),
+        Err(bad) => report.show_debug(bad),
     }
 }
 
 /// Reports how often the stream tokenized, after the last result was requested twice.
-fn tell_cuts(told: &mut Told, stream: &TokenStream<'_>) {
-    told.tell(", ");
-    told.show(&stream.cuts());
-    told.tell(" cuts");
+fn report_cuts(report: &mut Report, stream: &TokenStream<'_>) {
+    report.append(", ");
+    report.show(&stream.cuts());
+    report.append(" cuts");
 }
 
 /// Reports a line for each token and for the end: position, offset, brackets that are open before it, and token.
-pub fn tell_items(told: &mut Told, source: &str) {
+pub fn report_items(report: &mut Report, source: &str) {
     if source.len() > usize::MAX / 16 {
         return;
     }
     let mut stream = TokenStream::new(source);
     for _ in 0..u64::MAX {
-        tell_place(told, &stream);
+        report_place(report, &stream);
         match stream.next_token() {
-            Ok(Some(token)) => told.show_line(&token),
+            Ok(Some(token)) => report.show_line(&token),
             last => {
-                tell_last_item(told, &last);
+                report_last_item(report, &last);
                 if stream.next_token() != last {
-                    told.find_wrong();
+                    report.find_wrong();
                 }
-                tell_cuts(told, &stream);
+                report_cuts(report, &stream);
                 return;
             }
         }
@@ -88,21 +88,21 @@ pub fn tell_items(told: &mut Told, source: &str) {
 }
 
 /// Reports the value of the string with this body between its quotes.
-pub fn tell_quoted(told: &mut Told, body: &str) {
-    let Ok(text) = format!(in told.alloc; "\"{body}\"") else {
-        told.cut_short();
+pub fn report_quoted(report: &mut Report, body: &str) {
+    let Ok(text) = format!(in report.alloc; "\"{body}\"") else {
+        report.cut_short();
         return;
     };
-    told.tell_answer(&unquote_string(told.alloc, text.as_str()));
+    report.append_result(&unquote_string(report.alloc, text.as_str()));
 }
 
 /// Reports the value of the block string with this content.
-pub fn tell_block(told: &mut Told, content: &str) {
-    let Ok(text) = format!(in told.alloc; "\"\"\"{content}\"\"\"") else {
-        told.cut_short();
+pub fn report_block(report: &mut Report, content: &str) {
+    let Ok(text) = format!(in report.alloc; "\"\"\"{content}\"\"\"") else {
+        report.cut_short();
         return;
     };
-    told.tell_made(&unquote_block_string(told.alloc, text.as_str()));
+    report.append_made(&unquote_block_string(report.alloc, text.as_str()));
 }
 
 /// The value of the first argument of the first field.
@@ -121,47 +121,47 @@ fn first_value<'d>(document: &'d Document<'_, String>) -> Option<&'d Value<'d, S
 }
 
 /// Marks the report as wrong if its text is no argument with this value.
-fn read_value_back(told: &mut Told, value: &Value<'_, String>) {
-    let Ok(source) = format!(in told.alloc; "{{a(b:{})}}", told.text()) else {
-        told.cut_short();
+fn read_value_back(report: &mut Report, value: &Value<'_, String>) {
+    let Ok(source) = format!(in report.alloc; "{{a(b:{})}}", report.text()) else {
+        report.cut_short();
         return;
     };
-    match parse_query::<String>(told.alloc, source.as_str()) {
+    match parse_query::<String>(report.alloc, source.as_str()) {
         Ok(document) if first_value(&document) == Some(value) => {}
-        Err(error) if matches!(error.cause(), Cause::OutOfMemory) => told.cut_short(),
-        _ => told.find_wrong(),
+        Err(error) if matches!(error.cause(), Cause::OutOfMemory) => report.cut_short(),
+        _ => report.find_wrong(),
     }
 }
 
 /// Reports what `Display` shows of a string with this value. As an argument it must parse back.
-pub fn tell_string(told: &mut Told, text: &str) {
-    let Ok(text) = String::from_str(told.alloc, text) else {
-        told.cut_short();
+pub fn report_string(report: &mut Report, text: &str) {
+    let Ok(text) = String::from_str(report.alloc, text) else {
+        report.cut_short();
         return;
     };
     let value: Value<'_, String> = Value::String(text);
-    told.show(&value);
-    read_value_back(told, &value);
+    report.show(&value);
+    read_value_back(report, &value);
 }
 
 /// Reports a float literal. Its clone must be equal.
-fn tell_literal(told: &mut Told, literal: &FloatLiteral) {
-    told.tell(literal.as_str());
+fn report_literal(report: &mut Report, literal: &FloatLiteral) {
+    report.append(literal.as_str());
     match literal.clone() {
         Ok(copy) if copy == *literal => {}
-        Ok(_) => told.find_wrong(),
-        Err(_) => told.cut_short(),
+        Ok(_) => report.find_wrong(),
+        Err(_) => report.cut_short(),
     }
 }
 
 /// Reports the float literal with this spelling. Any other string is returned as the error.
-pub fn tell_float(told: &mut Told, text: &str) {
-    let Ok(text) = String::from_str(told.alloc, text) else {
-        told.cut_short();
+pub fn report_float(report: &mut Report, text: &str) {
+    let Ok(text) = String::from_str(report.alloc, text) else {
+        report.cut_short();
         return;
     };
     match FloatLiteral::new(text) {
-        Ok(literal) => tell_literal(told, &literal),
-        Err(text) => told.refuse(&text),
+        Ok(literal) => report_literal(report, &literal),
+        Err(text) => report.reject(&text),
     }
 }

@@ -23,14 +23,14 @@ fn a_long_input_takes_few_reads(rt: HostRuntime) -> Result<(), Fail> {
     let mut source = Source::of(text.as_bytes());
     source.step = text.len();
     let mut sink = Sink::new(alloc);
-    let answer = run(
+    let returned = run(
         alloc,
         Command::Query,
         &Style::default(),
         &mut Counted::new(&mut source),
         &mut Counted::new(&mut sink),
     );
-    assert!(rt; answer.is_ok());
+    assert!(rt; returned.is_ok());
     assert_eq!(rt; sink.taken.as_slice(), b"{\n  a\n}\n".as_slice());
     assert!(rt; source.left.is_empty());
     // at most four reads, and the end

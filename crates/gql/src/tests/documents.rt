@@ -154,7 +154,7 @@ const RUNS: [(&str, &str, &str, &str, u8); 25] = [
 ];
 
 #[test]
-fn texts_are_answered(rt: HostRuntime) -> Result<(), Fail> {
+fn inputs_have_outputs(rt: HostRuntime) -> Result<(), Fail> {
     let alloc = rt.alloc();
     for (words, text, written, message, code) in RUNS {
         let source = Source::of(text.as_bytes());

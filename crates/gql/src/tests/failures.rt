@@ -8,10 +8,10 @@ use std::test::Fail;
 const OUTPUT: &str = "{\n  a\n}\n";
 
 #[test]
-fn refuses_what_is_not_utf8(rt: HostRuntime) -> Result<(), Fail> {
+fn rejects_what_is_not_utf8(rt: HostRuntime) -> Result<(), Fail> {
     let alloc = rt.alloc();
     let ran = run_over(alloc, "query", Source::of(&[123, 255]), Sink::new(alloc))?;
-    assert!(rt; matches!(&ran.answer, Err(RunError::NotUtf8)));
+    assert!(rt; matches!(&ran.returned, Err(RunError::NotUtf8)));
     assert_ended(&rt, alloc, &ran, b"", "gql: input is not UTF-8", 2)
 }
 
@@ -26,7 +26,10 @@ fn a_read_that_fails_ends_the_run(rt: HostRuntime) -> Result<(), Fail> {
             source.failing = failing;
             source.kind = kind;
             let ran = run_over(alloc, "query", source, Sink::new(alloc))?;
-            assert!(rt; matches!(&ran.answer, Err(RunError::Read)), "at {failing}");
+            assert!(rt;
+                matches!(&ran.returned, Err(RunError::Read)),
+                "at {failing}"
+            );
             assert_eq!(rt; ran.read_faults, 1);
             assert_ended(&rt, alloc, &ran, b"", "gql: read failed", 2)?;
         }
@@ -67,7 +70,7 @@ fn a_write_that_fails_ends_the_run(rt: HostRuntime) -> Result<(), Fail> {
         sink.flushes = flushes;
         sink.kind = kind;
         let ran = run_over(alloc, words, Source::of(text.as_bytes()), sink)?;
-        assert!(rt; matches!(&ran.answer, Err(RunError::Write)), "{written}");
+        assert!(rt; matches!(&ran.returned, Err(RunError::Write)), "{written}");
         assert_eq!(rt; ran.write_faults, 1);
         assert_ended(&rt, alloc, &ran, written.as_bytes(), "gql: write failed", 2)?;
     }

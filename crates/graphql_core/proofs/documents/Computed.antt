@@ -1,6 +1,6 @@
 -- The document of an input, or the place of its first error, by computing.
 use Rattle.std.proofs.Common.{◌≡◌, ℕ, zero, suc, true, cond, List, [], ◌∷◌, Option, Some, None, refl}
-use Rattle.graphql_core.specs.{has_tree, first, Choice, Neither, sees, choose, Left, Right, Reason, index_of, IsLeast, Rejected, answer_of, Grammar, Expr}
+use Rattle.graphql_core.specs.{has_tree, first, Choice, Neither, sees, choose, Left, Right, Reason, index_of, IsLeast, Rejected, result_of, Grammar, Expr}
 use Rattle.graphql_core.specs.{Empty, One, Then, Either, Many, Sym, ParseTree, Nothing, Leaf, Both, First, Second, Stop, More, Node, row, accepts, peek, leaves}
 use Rattle.graphql_core.specs.{Token, written, start, Item, HasItems, IsEnd, split, items, reading, Language, numbered, IsDocumentOf, IsReadable}
 use Rattle.graphql_core.proofs.grammar.{fits-from_test, IsGiven, given, Found, find}
@@ -48,13 +48,13 @@ module _ {D : Type 0} (l : Language D) where
   computed text fits tokens end =
       (items start text, has_items text, (parse_tree_of text, (fits-from_test l.grammar (Sym l.document) (parse_tree_of text) fits, tokens), end, refl))
 
-  abbrev pub answered : (text : List ℕ) → Found (reading l) (Sym l.document) (split (items start text)).tokens
-  answered text = find (reading l) 60 (Sym l.document) (split (items start text)).tokens
+  abbrev pub found_for : (text : List ℕ) → Found (reading l) (Sym l.document) (split (items start text)).tokens
+  found_for text = find (reading l) 60 (Sym l.document) (split (items start text)).tokens
 
   -- the error found is the first error: the one at the lowest token index
-  pub refused : IsReadable l → (text : List ℕ) (why : Reason) (place : ℕ) (h : IsGiven (answered text))
-      → Rejected why place ≡ answer_of (numbered (split (items start text))) (given (answered text) h).0
+  pub rejected : IsReadable l → (text : List ℕ) (why : Reason) (place : ℕ) (h : IsGiven (found_for text))
+      → Rejected why place ≡ result_of (numbered (split (items start text))) (given (found_for text) h).0
       → (items : List Item) × HasItems text items × IsLeast l.grammar (Sym l.document) (numbered (split items)) why (index_of why place)
-  refused readable text why place h i =
-      let r = given (answered text) h in
+  rejected readable text why place h i =
+      let r = given (found_for text) h in
       (items start text, has_items text, (least l readable).wrong (numbered (split (items start text))) why place (r.0, r.1, i))

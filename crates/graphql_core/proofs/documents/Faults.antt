@@ -3,8 +3,8 @@ use Rattle.std.proofs.Common.{◌≡◌, ℕ, suc, true, false, List, [], ◌∷
 use Rattle.std.proofs.Common.{le_refl, arith}
 use Rattle.std.proofs.lemmas.List.{drop_at, drop_all}
 use Rattle.std.proofs.lemmas.Bool.{both_ways, and_parts}
-use Rattle.graphql_core.specs.{Begins, Grammar, Sym, ParseTree, Node, unchecked, Reason, Unexpected, Improper, Refused, lax, Answers, Answer, IsFault, Language}
-use Rattle.graphql_core.specs.{bad_place, leaf_refused, node_refused, index_of, unexpected_item, IsLeast, Content, TokenContent, item_at, Where, Item, fault_at}
+use Rattle.graphql_core.specs.{Begins, Grammar, Sym, ParseTree, Node, unchecked, Reason, Unexpected, Improper, RejectedNode, lax, HasResult, WholeResult, IsFault, Language}
+use Rattle.graphql_core.specs.{lexical_error, leaf_rejected, node_rejected, index_of, unexpected_item, IsLeast, Content, TokenContent, item_at, Where, Item, fault_at}
 use Rattle.graphql_core.specs.{LastIsError, Items, Last, LastIsEnd, IsEnd, FaultText, fault_by, place_next, split, int_out_of_range, malformed_float}
 use Rattle.graphql_core.specs.{bad_escape, CauseText, is_unexpected, no_value, ending_of, numbered, HasNoValue, out_of_range, malformed, escaped_badly, Says}
 use Rattle.graphql_core.specs.{IsFaultAt, IsFirstError, NoneGoesOn, IsFaultOf, IsFirstErrorOf, HasOneFaultAt, HasOneFaultEach, HasNoFault, IsFaultAfter}
@@ -73,13 +73,13 @@ module _ {D : Type 0} (l : Language D) (r : IsReadable l) where
   -- ---- the error where a reader stops
 
   -- the token that is rejected as a leaf, and the index of its error
-  abbrev RefusedLeaf : texts.Text → Class → ℕ → Type 0
-  RefusedLeaf t c n =
+  abbrev RejectedLeaf : texts.Text → Class → ℕ → Type 0
+  RejectedLeaf t c n =
       (u : Token) × (us : List Token) × (front : List Token) × (t.tokens ≡ front ++ u ∷ us) × (n ≡ suc (length front)) × (matches c u ≡ true)
       × (l.grammar.good c u ≡ false)
 
-  refused_leaf : (t : texts.Text) (c : Class) (n : ℕ) → IsFault l.grammar (Sym l.document) t (Improper c) n → RefusedLeaf t c n
-  refused_leaf t c _ (leaf_refused front us u _ p leads m g) = (u, us, front, p, refl, m, g)
+  rejected_leaf : (t : texts.Text) (c : Class) (n : ℕ) → IsFault l.grammar (Sym l.document) t (Improper c) n → RejectedLeaf t c n
+  rejected_leaf t c _ (leaf_rejected front us u _ p leads m g) = (u, us, front, p, refl, m, g)
 
   -- each token of this class that is not good is rejected for this cause
   abbrev pub Misses : Class → CauseText → Type 0
@@ -93,7 +93,7 @@ module _ {D : Type 0} (l : Language D) (r : IsReadable l) where
     pub no_value_here : (c : Class) (k : CauseText) → Misses c k → IsLeast l.grammar (Sym l.document) (numbered i) (Improper c) (suc n)
         → f.cause ≡ k → f.place ≡ place_next j → IsFirstError l i f
     no_value_here c k lacks w cause place =
-        let (u, us, front, p, m, is, not_good) = refused_leaf (numbered i) c (suc n) w.0 in
+        let (u, us, front, p, m, is, not_good) = rejected_leaf (numbered i) c (suc n) w.0 in
         let here : drop n i.tokens ≡ u ∷ us = ap (drop n) p ∙ drop_at front (u ∷ us) n (omega (arith, m)) in
         let at : place_next j ≡ u.place = ap (λ ts. (fault_by ts j.last).place) (sym later ∙ here) in
         (suc n, Improper c, w, (u, us, here, subst (l.lacks c u) (sym cause) (lacks u is not_good), place ∙ at))
@@ -108,10 +108,10 @@ module _ {D : Type 0} (l : Language D) (r : IsReadable l) where
       let cause_is = r.one_cause c t f.cause g.cause lacks (subst (λ (v : Token). l.lacks c v g.cause) same lacks') in
       let place_is = at ∙ ap (λ (v : Token). v.place) (sym same) ∙ sym at' in
       λ k. record { cause = cause_is k; place = place_is k }
-  one_said (Refused k) i n f g fault (before, us, x, refused, at, said) (before', us', y, refused', at', said') =
+  one_said (RejectedNode k) i n f g fault (before, us, x, rejected, at, said) (before', us', y, rejected', at', said') =
       let same = one_node_for l.grammar l.factored_rows l.changes r.each r.each_lax r.ll1 r.tight r.productive (Sym l.document) r.decides r.samples
-      i.tokens before us before' us' k x y refused refused' (sym at ∙ at') in
-      r.one_said (Node k x) f g said (subst (λ (z : ParseTree). l.refuses (Node k z) g) (sym same) said')
+      i.tokens before us before' us' k x y rejected rejected' (sym at ∙ at') in
+      r.one_said (Node k x) f g said (subst (λ (z : ParseTree). l.rejects (Node k z) g) (sym same) said')
 
   pub one_at : (i : Items) → HasOneFaultAt l i
   one_at i f g n (why, x, said) (other, y, said') =
@@ -145,11 +145,11 @@ module _ {D : Type 0} (l : Language D) (r : IsReadable l) where
   -- if no other error has the cause of an unexpected token
   module _
       (leaves_not : (c : Class) (t : Token) (k : CauseText) → l.lacks c t k → is_unexpected k ≡ false)
-      (nodes_not : (node : ParseTree) (f : FaultText) → l.refuses node f → is_unexpected f.cause ≡ false)
+      (nodes_not : (node : ParseTree) (f : FaultText) → l.rejects node f → is_unexpected f.cause ≡ false)
     where
       none_at : (items : List Item) (f : FaultText) (n : ℕ) → is_unexpected f.cause ≡ true
           → IsFault l.grammar (Sym l.document) (numbered (split items)) Unexpected n → Says l Unexpected (split items) n f → NoneGoesOn l (split items) f
-      none_at items f _ cause (bad_place bad) said =
+      none_at items f _ cause (lexical_error bad) said =
           let none : drop (length (split items).tokens) (split items).tokens ≡ [] = drop_all (length (split items).tokens) _ (le_refl _) in
           let at_last : f ≡ fault_by [] (split items).last = said ∙ ap (λ (ts : List Token). fault_by ts (split items).last) none in
           absurd (both_ways _ (ap (λ (g : FaultText). is_unexpected g.cause) at_last ∙ last_not items bad) cause)
@@ -161,7 +161,7 @@ module _ {D : Type 0} (l : Language D) (r : IsReadable l) where
           → IsFault l.grammar (Sym l.document) (numbered (split items)) why n → Says l why (split items) n f → NoneGoesOn l (split items) f
       none_by items f n Unexpected cause fault said = none_at items f n cause fault said
       none_by items f n (Improper c) cause fault (t, rest, is, lacks, at) = absurd (both_ways _ (leaves_not c t f.cause lacks) cause)
-      none_by items f n (Refused k) cause fault (before, us, x, refused, at, said) = absurd (both_ways _ (nodes_not (Node k x) f said) cause)
+      none_by items f n (RejectedNode k) cause fault (before, us, x, rejected, at, said) = absurd (both_ways _ (nodes_not (Node k x) f said) cause)
 
       pub none_goes_on : (items : List Item) (f : FaultText) → IsFirstError l (split items) f → is_unexpected f.cause ≡ true → NoneGoesOn l (split items) f
       none_goes_on items f (n, why, least_one, said) cause = none_by items f n why cause least_one.0 said
@@ -169,8 +169,8 @@ module _ {D : Type 0} (l : Language D) (r : IsReadable l) where
   -- ---- the error of lowest index is the first error, if no node is rejected
 
   module _ (no_checks : unchecked l.grammar ≡ l.grammar) where
-    none_refused : (t : texts.Text) (k n : ℕ) → IsFault l.grammar (Sym l.document) t (Refused k) n → ⊥
-    none_refused t _ _ (node_refused before us k x (p, nonempty, leads, f, c, n)) =
+    none_rejected : (t : texts.Text) (k n : ℕ) → IsFault l.grammar (Sym l.document) t (RejectedNode k) n → ⊥
+    none_rejected t _ _ (node_rejected before us k x (p, nonempty, leads, f, c, n)) =
         let passes : true ≡ l.grammar.check k x = ap (λ (g : Grammar). g.check k x) no_checks in
         absurd (cc (passes, c))
 
@@ -189,10 +189,10 @@ module _ {D : Type 0} (l : Language D) (r : IsReadable l) where
           let here = subst (λ (us : List Token). IsFaultAfter l (take place i.tokens) us i.last (record { cause = f.cause; place = t.place }))
           (sym is) found in
           subst (IsFaultAfter l (take place i.tokens) (drop place i.tokens) i.last) (λ k. record { cause = f.cause; place = sym at k }) here
-      after_first (Refused k) w x said = absurd (none_refused (numbered i) k place x)
+      after_first (RejectedNode k) w x said = absurd (none_rejected (numbered i) k place x)
 
     first_by : (i : Items) (f : FaultText) (n : ℕ) (why : Reason) → IsLeast l.grammar (Sym l.document) (numbered i) why n → Says l why i n f
-        → (a : Answer) → Answers (reading l) (Sym l.document) (numbered i) a → StopsAllDocuments l i f
+        → (a : WholeResult) → HasResult (reading l) (Sym l.document) (numbered i) a → StopsAllDocuments l i f
     first_by i f n why w said (results.Tree x) a = absurd ((least l r).tree (numbered i) x a why n w.0)
     first_by i f n why w said (results.Rejected other place) a =
         let is = (least l r).wrong (numbered i) other place a in
@@ -205,5 +205,5 @@ module _ {D : Type 0} (l : Language D) (r : IsReadable l) where
 
     pub least_is_first : (text : List ℕ) (f : FaultText) → IsFirstErrorOf l text f → StopsAllDocumentsOf l text f
     least_is_first text f (items, has, (n, why, w, said)) =
-        let a = (whole_reading l r).answer (numbered (split items)) in
+        let a = (whole_reading l r).has_result (numbered (split items)) in
         (items, has, first_by (split items) f n why w said a.0 a.1)

@@ -3,9 +3,9 @@ use Rattle.std.specs.Int.RustNames.{FitsSigned}
 use Rattle.std.proofs.Common.{◌≡◌, ℕ, zero, suc, Bool, true, false, ◌&&◌, List, [], ◌∷◌, ◌++◌, length, map, drop, refl, sym, ap, ◌∙◌, subst, w64}
 use Rattle.std.proofs.lemmas.List.{map-append, length-map, drop-map}
 use Rattle.graphql_core.specs.{Begins, Ends, Grammar, Fits, Expr, Then, Many, Sym, ParseTree, Node, leaves, peek, accepts, leads_here, leads_after, leads_turn}
-use Rattle.graphql_core.specs.{leads_later, leads_before, leads_second, leads_first, Leads, leads_node, Text, IsRefused, IsFault, bad_place, unexpected_item}
-use Rattle.graphql_core.specs.{leaf_refused, node_refused, IsLeast, unexpected_token, CauseText, IsInQuotes, LastIsError, Items, Last, LastIsEnd, IsEnd, split}
-use Rattle.graphql_core.specs.{fault_by, FaultText, Token, Class, matches, Reason, Unexpected, Improper, Refused, lax, Item, unplaced, IsMinified}
+use Rattle.graphql_core.specs.{leads_later, leads_before, leads_second, leads_first, Leads, leads_node, Text, IsRejected, IsFault, lexical_error, unexpected_item}
+use Rattle.graphql_core.specs.{leaf_rejected, node_rejected, IsLeast, unexpected_token, CauseText, IsInQuotes, LastIsError, Items, Last, LastIsEnd, IsEnd, split}
+use Rattle.graphql_core.specs.{fault_by, FaultText, Token, Class, matches, Reason, Unexpected, Improper, RejectedNode, lax, Item, unplaced, IsMinified}
 use Rattle.graphql_core.specs.{IsFloatLiteral, int_of, numbered, from_item, HasNoValue, out_of_range, malformed, escaped_badly, Says, IsFirstError}
 use Rattle.graphql_core.specs.{IsFirstErrorOf, Language, IsReadable}
 use Rattle.graphql_core.proofs.lexical.{items_unique}
@@ -103,14 +103,14 @@ module _ (g : Grammar) (good : (c : Class) (t u : Token) → SameLeaf c t u → 
       last_part (matches c u) (g.good c u) (matches c t) (g.good c t) (ap (matches c) one ∙ m) m (good c t u (unplaced_leaf c t u one))
 
   -- a node that is rejected between the tokens, and the same node of the other tokens
-  abbrev RefusedAlike : List Token → ℕ → ParseTree → ℕ → Type 0
-  RefusedAlike ts k x n =
-      (before us : List Token) × (s : SameTrees) × (left_tree s ≡ x) × IsRefused g e ts k (right_tree s) before us
+  abbrev RejectedAlike : List Token → ℕ → ParseTree → ℕ → Type 0
+  RejectedAlike ts k x n =
+      (before us : List Token) × (s : SameTrees) × (left_tree s ≡ x) × IsRejected g e ts k (right_tree s) before us
       × (length (before ++ leaves (right_tree s)) ≡ n)
 
-  pub refused_alike : (ts others : List Token) → Alike others ts → (k : ℕ) (x : ParseTree) (before us : List Token) → IsRefused g e ts k x before us
-      → RefusedAlike others k x (length (before ++ leaves x))
-  refused_alike ts others h k x before us (parts, some, leads, fits, bad, stops) =
+  pub rejected_alike : (ts others : List Token) → Alike others ts → (k : ℕ) (x : ParseTree) (before us : List Token) → IsRejected g e ts k x before us
+      → RejectedAlike others k x (length (before ++ leaves x))
+  rejected_alike ts others h k x before us (parts, some, leads, fits, bad, stops) =
       let (front, rest, p, a, b) = alike_split before (leaves x ++ us) others (h ∙ ap (map unplaced) parts) in
       let (xs, after, q, c, d) = alike_split (leaves x) us rest b in
       let (s, left, fy, ly) = refilled_alike g good checks fits xs c in
@@ -135,22 +135,22 @@ module _ (g : Grammar) (good : (c : Class) (t u : Token) → SameLeaf c t u → 
       )
 
   pub fault_alike : (t u : Text) → Alike u.tokens t.tokens → u.ending ≡ t.ending → {why : Reason} {n : ℕ} → IsFault g e t why n → IsFault g e u why n
-  fault_alike t u h end (bad_place bad) =
-      subst (λ (n : ℕ). IsFault g e u Unexpected n) (ap suc (alike_length u.tokens t.tokens h)) (bad_place (end ∙ bad))
+  fault_alike t u h end (lexical_error bad) =
+      subst (λ (n : ℕ). IsFault g e u Unexpected n) (ap suc (alike_length u.tokens t.tokens h)) (lexical_error (end ∙ bad))
   fault_alike t u h end (unexpected_item front us parts at begins none) =
       let (before, rest, p, a, b) = alike_split front us u.tokens (h ∙ ap (map unplaced) parts) in
       subst (λ (n : ℕ). IsFault g e u Unexpected n) (ap suc (alike_length before front a))
       (unexpected_item before rest p (λ last. end ∙ at (none_alike us rest b last)) (begins_alike g e front before a begins)
       (ends_alike g e front before us rest a b none))
-  fault_alike t u h end (leaf_refused front us v c parts leads m bad) =
+  fault_alike t u h end (leaf_rejected front us v c parts leads m bad) =
       let (before, rest, p, a, b) = alike_split front (v ∷ us) u.tokens (h ∙ ap (map unplaced) parts) in
       let (w, ws, here, one, same) = begins_with v us rest b in
       subst (λ (n : ℕ). IsFault g e u (Improper c) n) (ap suc (alike_length before front a))
-      (leaf_refused before ws w c (p ∙ ap (λ (l : List Token). before ++ l) here) (leads_alike g leads before a) (ap (matches c) one ∙ m)
+      (leaf_rejected before ws w c (p ∙ ap (λ (l : List Token). before ++ l) here) (leads_alike g leads before a) (ap (matches c) one ∙ m)
       (good_alike c v w one m ∙ bad))
-  fault_alike t u h end (node_refused before us k x refused) =
-      let (front, after, s, left, same, at) = refused_alike t.tokens u.tokens h k x before us refused in
-      subst (λ (n : ℕ). IsFault g e u (Refused k) n) at (node_refused front after k (right_tree s) same)
+  fault_alike t u h end (node_rejected before us k x rejected) =
+      let (front, after, s, left, same, at) = rejected_alike t.tokens u.tokens h k x before us rejected in
+      subst (λ (n : ℕ). IsFault g e u (RejectedNode k) n) at (node_rejected front after k (right_tree s) same)
 
   least_alike : (t u : Text) → Alike u.tokens t.tokens → u.ending ≡ t.ending → {why : Reason} {n : ℕ} → IsLeast g e t why n → IsLeast g e u why n
   least_alike t u h end (fault, least) = (fault_alike t u h end fault, λ other m x. least other m (fault_alike u t (sym h) (sym end) x))
@@ -182,12 +182,12 @@ valueless_alike t u k one (escaped_badly kind value) =
     (subst (λ (s : List ℕ). (body : List ℕ) → IsInQuotes s body → strings.HasNoStringValue body) (sym same) value)
 
 -- Why a leaf or a node is rejected does not depend on positions. Only the position in the error does.
-pub record RefusesAlike {D : Type 0} (l : Language D) : Type 0 where
+pub record RejectsAlike {D : Type 0} (l : Language D) : Type 0 where
   pub lacks : (c : Class) (t u : Token) (k : CauseText) → unplaced u ≡ unplaced t → l.lacks c t k → l.lacks c u k
-  pub refuses : (k : ℕ) (s : SameTrees) (f : FaultText) → l.refuses (Node k (left_tree s)) f
-      → (g : FaultText) × l.refuses (Node k (right_tree s)) g × (g.cause ≡ f.cause)
+  pub rejects : (k : ℕ) (s : SameTrees) (f : FaultText) → l.rejects (Node k (left_tree s)) f
+      → (g : FaultText) × l.rejects (Node k (right_tree s)) g × (g.cause ≡ f.cause)
 
-module _ {D : Type 0} (l : Language D) (p : DependsOnValues l) (q : RefusesAlike l) where
+module _ {D : Type 0} (l : Language D) (p : DependsOnValues l) (q : RejectsAlike l) where
   says_alike : (why : Reason) (a b : Items) → Alike b.tokens a.tokens → IsEnd a.last → IsEnd b.last → (n : ℕ) (f : FaultText) → Says l why a n f
       → (g : FaultText) × Says l why b n g × (g.cause ≡ f.cause)
   says_alike Unexpected a b h end last n f is = (
@@ -199,17 +199,17 @@ module _ {D : Type 0} (l : Language D) (p : DependsOnValues l) (q : RefusesAlike
   says_alike (Improper c) a b h end last n f (t, rest, at, lacks, place) =
       let (u, us, here, one, same) = begins_with t rest (from_item n b.tokens) (alike_from n b.tokens a.tokens h ∙ ap (map unplaced) at) in
       (record { cause = f.cause; place = u.place }, (u, us, here, q.lacks c t u f.cause one lacks, refl), refl)
-  says_alike (Refused k) a b h end last n f (before, us, x, refused, at, said) =
-      let (front, after, s, left, same, here) = refused_alike l.grammar p.accepts p.checks (Sym l.document) a.tokens b.tokens h k x before us refused in
-      let (g, told, cause) = q.refuses k s f (subst (λ (y : ParseTree). l.refuses (Node k y) f) (sym left) said) in
-      (g, (front, after, right_tree s, same, at ∙ sym here, told), cause)
+  says_alike (RejectedNode k) a b h end last n f (before, us, x, rejected, at, said) =
+      let (front, after, s, left, same, here) = rejected_alike l.grammar p.accepts p.checks (Sym l.document) a.tokens b.tokens h k x before us rejected in
+      let (g, stated, cause) = q.rejects k s f (subst (λ (y : ParseTree). l.rejects (Node k y) f) (sym left) said) in
+      (g, (front, after, right_tree s, same, at ∙ sym here, stated), cause)
 
   pub least_fault_alike : (a b : Items) → Alike b.tokens a.tokens → IsEnd a.last → IsEnd b.last → (f : FaultText) → IsFirstError l a f
       → (g : FaultText) × IsFirstError l b g × (g.cause ≡ f.cause)
   least_fault_alike a b h end last f (n, why, least, said) =
-      let (g, told, cause) = says_alike why a b h end last n f said in (
+      let (g, stated, cause) = says_alike why a b h end last n f said in (
         g,
-        (n, why, least_alike l.grammar p.accepts p.checks (Sym l.document) (numbered a) (numbered b) h (ends b.last last ∙ sym (ends a.last end)) least, told),
+        (n, why, least_alike l.grammar p.accepts p.checks (Sym l.document) (numbered a) (numbered b) h (ends b.last last ∙ sym (ends a.last end)) least, stated),
         cause,
       )
 

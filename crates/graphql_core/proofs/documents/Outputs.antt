@@ -1,25 +1,25 @@
 -- What a result states about its input.
 use Rattle.std.proofs.Common.{◌≡◌, ◌<◌, ◌≤◌, ℕ, List, length, Result, Ok, Err, IfOk, IfErr, IsErrOf, inl, inr}
 use Rattle.std.proofs.lemmas.Bool.{cases_lt}
-use Rattle.graphql_core.specs.{Refusal, max_length, IsDocumentOf, AnswersUnlessMemory, IsRefusalOf, ParsesDocument, HasNone, Language}
+use Rattle.graphql_core.specs.{ParseFailure, max_length, IsDocumentOf, ReturnsUnlessOutOfMemory, IsErrorOf, ParsesDocument, HasNone, Language}
 use Rattle.graphql_core.specs.declared.format.error.FormatError.{FormatError}
 use Rattle.graphql_core.specs.declared.format.error.FormatError.TheVariants.{TooWide}
 
 -- ---- errors
 
 -- an error is `OutOfMemory`, or the input has more than `MAX_LENGTH` bytes or none of what is sought
-pub has_none : {D T V : Type 0} (Has : List ℕ → T → Type 0) (l : Language D) (view : V → T) (text : List ℕ) (r : Result V Refusal)
-    → IfErr r (IsRefusalOf l text) → ((t : T) → length text ≤ max_length → Has text t → AnswersUnlessMemory view t r) → IfErr r (HasNone Has l text)
-has_none Has l view text (Ok v) refused complete = tt
-has_none Has l view text (Err e) refused complete = (
-  refused,
+pub has_none : {D T V : Type 0} (Has : List ℕ → T → Type 0) (l : Language D) (view : V → T) (text : List ℕ) (r : Result V ParseFailure)
+    → IfErr r (IsErrorOf l text) → ((t : T) → length text ≤ max_length → Has text t → ReturnsUnlessOutOfMemory view t r) → IfErr r (HasNone Has l text)
+has_none Has l view text (Ok v) rejected complete = tt
+has_none Has l view text (Err e) rejected complete = (
+  rejected,
   λ other. elim (cases_lt max_length (length text)) [
     | inl long ↦ inl long
     | inr short ↦ inr (λ t is. other (complete t short is))
   ],
 )
 
-pub none_parsed : {D V : Type 0} {l : Language D} {view : V → D} {text : List ℕ} {r : Result V Refusal} → ParsesDocument l view text r
+pub none_parsed : {D V : Type 0} {l : Language D} {view : V → D} {text : List ℕ} {r : Result V ParseFailure} → ParsesDocument l view text r
     → IfErr r (HasNone (IsDocumentOf l) l text)
 none_parsed {l = l} {view = view} {text = text} {r = r} parses = has_none (IsDocumentOf l) l view text r parses.first_error parses.complete
 

@@ -1,10 +1,10 @@
 -- What a language must show once, and what the theory of grammars then states about it.
 use Rattle.std.proofs.Common.{◌≡◌, true, false, List, [], ◌∷◌, ◌++◌, length, replicate, refl, arith}
-use Rattle.graphql_core.specs.{sees, Unexpected, Fails, lax, IsExact, AreFactored, IsExactFor, Change, unchanged, IsWhole, IsWholeFor, AnswersLeast}
-use Rattle.graphql_core.specs.{RefusesTokens, nullable, first, decides, has_samples, Grammar, Expr, Sym, Row, peek, CauseText, Token, reading, Language}
+use Rattle.graphql_core.specs.{sees, Unexpected, Fails, lax, IsExact, AreFactored, IsExactFor, Change, unchanged, IsWhole, IsWholeFor, ReturnsFirstError}
+use Rattle.graphql_core.specs.{RejectsTokens, nullable, first, decides, has_samples, Grammar, Expr, Sym, Row, peek, CauseText, Token, reading, Language}
 use Rattle.graphql_core.specs.{HasNoValue, out_of_range, malformed, escaped_badly, IsReadable}
 use Rattle.graphql_core.proofs.rules.{IsFactored-unchanged, exact_for, whole_for}
-use Rattle.graphql_core.proofs.first_errors.{least_for, refuses_tokens_for}
+use Rattle.graphql_core.proofs.first_errors.{least_for, rejects_tokens_for}
 use Rattle.graphql_core.proofs.grammar.Exact as theory
 use Rattle.graphql_core.proofs.grammar.WholeTexts as whole_theory
 use Rattle.graphql_core.proofs.grammar.Unseen as theory_of_unseen
@@ -42,9 +42,9 @@ module _ {D : Type 0} (l : Language D) (r : IsReadable l) where
   pub whole_texts : IsWholeFor l.grammar l.factored_rows l.changes (Sym l.document)
   whole_texts = whole_for l.grammar l.factored_rows l.changes r.each r.each_unchecked r.each_lax r.ll1 r.productive (Sym l.document) r.decides r.samples
 
-  pub least : AnswersLeast l.grammar (reading l) (Sym l.document)
+  pub least : ReturnsFirstError l.grammar (reading l) (Sym l.document)
   least =
-      least_for l.grammar l.factored_rows l.changes r.each r.each_lax r.ll1 r.tight r.productive r.refuses_tokens (Sym l.document) r.decides r.samples
+      least_for l.grammar l.factored_rows l.changes r.each r.each_lax r.ll1 r.tight r.productive r.rejects_tokens (Sym l.document) r.decides r.samples
 
   -- the rules that are read, as a separate grammar
   pub exact_reading : IsExact (reading l) (Sym l.document)
@@ -54,10 +54,10 @@ module _ {D : Type 0} (l : Language D) (r : IsReadable l) where
   whole_reading = whole_theory.grammar_whole (reading l) (Sym l.document) exact_reading
 
   -- no node without tokens is rejected where it is read
-  pub refuses_read : RefusesTokens (reading l)
-  refuses_read k x fits bad empty = refuses_tokens_for l.grammar l.factored_rows l.changes r.each r.each_lax r.refuses_tokens k x fits bad empty
+  pub rejects_read : RejectsTokens (reading l)
+  rejects_read k x fits bad empty = rejects_tokens_for l.grammar l.factored_rows l.changes r.each r.each_lax r.rejects_tokens k x fits bad empty
 
   -- if the next item begins no list of an expression, the expression fails there
   pub unseen : (e : Expr) → decides l.factored_rows e ≡ true → has_samples (reading l) e ≡ true → nullable l.factored_rows e ≡ false → (ts : List Token)
       → sees (first l.factored_rows e) (peek ts) ≡ false → Fails (reading l) e ts Unexpected ts
-  unseen = theory_of_unseen.grammar_unseen (reading l) r.ll1 r.productive refuses_read
+  unseen = theory_of_unseen.grammar_unseen (reading l) r.ll1 r.productive rejects_read

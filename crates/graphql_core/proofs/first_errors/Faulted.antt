@@ -3,13 +3,13 @@ use Rattle.std.proofs.Common.{◌≡◌, ℕ, suc, ◌+◌, ◌-◌, ◌<◌, �
 use Rattle.std.proofs.Common.{append-nil, length-append, arith, inl, inr, ◌⊎◌}
 use Rattle.std.proofs.lemmas.Bool.{and_parts, or_left}
 use Rattle.graphql_core.specs.{Token, Class, matches, Expr, One, Then, Either, Many, Sym, ParseTree, Node, Grammar, row, leaves, peek, Fits, fits_node, Begins}
-use Rattle.graphql_core.specs.{Ends, first, decides, is_ll1, is_tight, has_samples, is_productive, sees, Takes, Reason, Unexpected, Improper, Refused, Fails}
+use Rattle.graphql_core.specs.{Ends, first, decides, is_ll1, is_tight, has_samples, is_productive, sees, Takes, Reason, Unexpected, Improper, RejectedNode, Fails}
 use Rattle.graphql_core.specs.{fails_one, fails_value, fails_before, fails_after, fails_first, fails_second, fails_neither, fails_turn, fails_later, fails_node}
 use Rattle.graphql_core.specs.{fails_check, Outcome, Done, Fault, ReadsTo, unchecked, lax, IsFirstFaultFor, leads_here, leads_before, leads_after, leads_first}
-use Rattle.graphql_core.specs.{leads_second, leads_turn, leads_later, leads_node, Leads, Text, Ending, InputEnds, InvalidToken, Answer, Tree, Rejected}
-use Rattle.graphql_core.specs.{answer_of, StopsBefore, IsFault, bad_place, unexpected_item, leaf_refused, node_refused, IsLeast, index_of, AnswersLeast}
-use Rattle.graphql_core.specs.{IsRefused, RefusesTokens}
-use Rattle.graphql_core.proofs.grammar.{Fronts, fronts, cancel, takes-fits, takes-leaves, IsRow-each, fits-first, take-or_fail, same-fail, answer, samples-at}
+use Rattle.graphql_core.specs.{leads_second, leads_turn, leads_later, leads_node, Leads, Text, Ending, InputEnds, InvalidToken, WholeResult, Tree, Rejected}
+use Rattle.graphql_core.specs.{result_of, StopsBefore, IsFault, lexical_error, unexpected_item, leaf_rejected, node_rejected, IsLeast, index_of, ReturnsFirstError}
+use Rattle.graphql_core.specs.{IsRejected, RejectsTokens}
+use Rattle.graphql_core.proofs.grammar.{Fronts, fronts, cancel, takes-fits, takes-leaves, IsRow-each, fits-first, take-or_fail, same-fail, outcome_of, samples-at}
 use Rattle.graphql_core.proofs.grammar.{tree-of, begins-around, fits-lax, takes-lax, taken-ends, first_fault, step, run-takes, run-fails, stops}
 use Rattle.graphql_core.proofs.grammar.WholeTexts.{some_peeked, rejected_is}
 
@@ -21,7 +21,7 @@ ends_once i = cc
 -- the place in a tree where the reader stops
 data Source (g : Grammar) : Expr → List Token → Reason → List Token → Type 0 where
   at_value : {c : Class} {t : Token} {ts : List Token} → matches c t ≡ true → g.good c t ≡ false → Source g (One c) (t ∷ ts) (Improper c) (t ∷ ts)
-  at_check : {k : ℕ} {ts us : List Token} {x : ParseTree} → Takes g (row g k).rule ts x us → g.check k x ≡ false → Source g (Sym k) ts (Refused k) us
+  at_check : {k : ℕ} {ts us : List Token} {x : ParseTree} → Takes g (row g k).rule ts x us → g.check k x ≡ false → Source g (Sym k) ts (RejectedNode k) us
   elsewhere : {e : Expr} {ts us : List Token} → Source g e ts Unexpected us
 
 record IsFrom (g : Grammar) (e : Expr) (ts : List Token) (why : Reason) (us : List Token) : Type 0 where
@@ -71,7 +71,7 @@ from g full (fails_later {a = a} {ts = ts} {us = us} {vs = vs} {x = x} {why = wh
     later g (Many a) (Many a) ts us vs x why (takes-leaves g p) (λ d front l. leads_later (fits-lax g (takes-fits g p)) l) (from g full q f)
 from g full (fails_node {k = k} {ts = ts} {us = us} {why = why} p) f =
     wider g (row g k).rule (Sym k) ts us why (λ d front l. leads_node l) (from g full p (samples-at g g.rows k full))
-from g full (fails_check {k = k} {ts = ts} {us = us} {x = x} p h) f = here g (Sym k) ts us (Refused k) (at_check p h)
+from g full (fails_check {k = k} {ts = ts} {us = us} {x = x} p h) f = here g (Sym k) ts us (RejectedNode k) (at_check p h)
 
 lax-begins : (g : Grammar) (e : Expr) (ts : List Token) → Begins (unchecked g) e ts → Begins (lax g) e ts
 lax-begins g e ts b = (b.0, b.1, (fits-lax (unchecked g) b.2.0, b.2.1))
@@ -98,8 +98,8 @@ module _ (g : Grammar) (ok : is_ll1 g.rows ≡ true) where
       not_empty v vs j = cc
 
   -- a node that is taken and does not pass its check is rejected
-  pub node_here : RefusesTokens g → (k : ℕ) (x : ParseTree) (ts us : List Token) → Takes g (row g k).rule ts x us → g.check k x ≡ false
-      → IsRefused g (Sym k) ts k x [] us
+  pub node_here : RejectsTokens g → (k : ℕ) (x : ParseTree) (ts us : List Token) → Takes g (row g k).rule ts x us → g.check k x ≡ false
+      → IsRejected g (Sym k) ts k x [] us
   node_here tokens k x ts us w bad =
       let fits = takes-fits g w in
       (takes-leaves g w, (λ i. tokens k x fits bad i), leads_here, fits, bad, stopped k x ts us w)
@@ -128,7 +128,7 @@ module _ (g : Grammar) (ok : is_ll1 g.rows ≡ true) (full : is_productive g ≡
       (begins-around (lax g) (row g k).rule (Sym k) (leaves x ++ u ∷ []) (Node k) [] (λ z w. fits_node w refl) (λ z. sym (append-nil (leaves z))) b))
 
   pub node_fails : (k : ℕ) (x : ParseTree) (us : List Token) → Fits g (row g k).rule x → g.check k x ≡ false → StopsBefore (lax g) (Sym k) (leaves x) us
-      → Fails g (Sym k) (leaves x ++ us) (Refused k) us
+      → Fails g (Sym k) (leaves x ++ us) (RejectedNode k) us
   node_fails k x us p c n = fails_check (node_takes k x us p n) c
 
   pub positive : (xs : List Token) → (xs ≡ [] → ⊥) → 0 < length xs
@@ -158,16 +158,16 @@ module _ (g : Grammar) (ok : is_ll1 g.rows ≡ true) (full : is_productive g ≡
       go : (w : Reason) → why ≡ w → (length ts < length front + length us) ⊎ ((s.front ≡ front) × (us ≡ vs)) → Before ts w us Unexpected (suc (length front))
       go Unexpected i (inl l) = inl (omega (arith, l))
       go (Improper c) i (inl l) = inl (omega (arith, l))
-      go (Refused k) i (inl l) = inl (omega (arith, l))
+      go (RejectedNode k) i (inl l) = inl (omega (arith, l))
       go Unexpected i (inr j) = inr (omega (arith, ap length s.parts, length-append s.front us, ap length j.0), refl)
-      go (Refused k) i (inr j) = inl (omega (arith, ap length s.parts, length-append s.front us, ap length j.0))
+      go (RejectedNode k) i (inr j) = inl (omega (arith, ap length s.parts, length-append s.front us, ap length j.0))
       go (Improper c) i (inr j) =
           let v = s.value c i in
           absurd (begins-past (lax g) e front vs v.rest v.token n (sym j.1 ∙ v.is) []
           (subst (λ (l : List Token). Begins (lax g) e (l ++ v.token ∷ [])) j.0 v.begins))
 
   meets : (t : Text) (why other : Reason) (us : List Token) (m : ℕ) → Fails g e t.tokens why us → IsFault g e t other m → Before t.tokens why us other m
-  meets t why _ us _ h (bad_place b) = go why us refl refl
+  meets t why _ us _ h (lexical_error b) = go why us refl refl
     where
       s : IsFirstFaultFor g e t.tokens why us
       s = (first_fault g ok full e d f t.tokens us why h).fault
@@ -178,11 +178,11 @@ module _ (g : Grammar) (ok : is_ll1 g.rows ≡ true) (full : is_productive g ≡
       go : (w : Reason) (vs : List Token) → why ≡ w → us ≡ vs → Before t.tokens w vs Unexpected (suc (length t.tokens))
       go Unexpected [] i j = inr (omega arith, refl)
       go Unexpected (v ∷ vs) i j = inl (omega arith)
-      go (Refused k) vs i j = inl (omega arith)
+      go (RejectedNode k) vs i j = inl (omega arith)
       go (Improper c) (v ∷ vs) i j = inl (omega arith)
       go (Improper c) [] i j = let v = s.value c i in absurd (not_empty v.token v.rest (sym j ∙ v.is))
   meets t why _ us _ h (unexpected_item front vs p i b n) = unexpected_met t.tokens us front vs why h p n
-  meets t why _ us _ h (leaf_refused front vs u c p l m n) =
+  meets t why _ us _ h (leaf_rejected front vs u c p l m n) =
       elim (run-fails g ok l d t.tokens (u ∷ vs) p (sees_leaf c u vs m) h) [
         | inl i ↦ inl (omega (arith, i, ap length p, length-append front (u ∷ vs)))
         | inr o ↦ elim o [
@@ -193,7 +193,7 @@ module _ (g : Grammar) (ok : is_ll1 g.rows ≡ true) (full : is_productive g ≡
     where
       again : why ≡ Improper c → us ≡ u ∷ vs → length t.tokens + step why ≡ suc (length front) + length us
       again i j = omega (arith, ap step i, ap length j, ap length p, length-append front (u ∷ vs))
-  meets t why _ us _ h (node_refused before vs k x (p, ne, l, q, c, n)) =
+  meets t why _ us _ h (node_rejected before vs k x (p, ne, l, q, c, n)) =
       let r = node_fails k x vs q c n in
       elim (run-fails g ok l d t.tokens (leaves x ++ vs) p (sees_node k x vs q ne) h) [
         | inl i ↦ inl (omega (arith, i, ap length p, length-append before (leaves x ++ vs), length-append before (leaves x), positive (leaves x) ne))
@@ -203,7 +203,7 @@ module _ (g : Grammar) (ok : is_ll1 g.rows ≡ true) (full : is_productive g ≡
         ]
       ]
     where
-      again : why ≡ Refused k → us ≡ vs → length t.tokens + step why ≡ length (before ++ leaves x) + length us
+      again : why ≡ RejectedNode k → us ≡ vs → length t.tokens + step why ≡ length (before ++ leaves x) + length us
       again i j =
           omega (
             arith,
@@ -218,7 +218,7 @@ module _ (g : Grammar) (ok : is_ll1 g.rows ≡ true) (full : is_productive g ≡
 
   meets-taken : (t : Text) (other : Reason) (us : List Token) (m : ℕ) (z : ParseTree) → Takes g e t.tokens z us → IsFault g e t other m
       → Before t.tokens Unexpected us other m
-  meets-taken t _ us _ z h (bad_place b) = go us
+  meets-taken t _ us _ z h (lexical_error b) = go us
     where
       go : (vs : List Token) → Before t.tokens Unexpected vs Unexpected (suc (length t.tokens))
       go [] = inr (omega arith, refl)
@@ -228,24 +228,24 @@ module _ (g : Grammar) (ok : is_ll1 g.rows ≡ true) (full : is_productive g ≡
         | inl l ↦ inl (omega (arith, l))
         | inr j ↦ inr (omega (arith, ap length (takes-leaves g h), length-append (leaves z) us, ap length j.0), refl)
       ]
-  meets-taken t _ us _ z h (leaf_refused front vs u c p l m n) =
+  meets-taken t _ us _ z h (leaf_rejected front vs u c p l m n) =
       let k = run-takes g ok l d t.tokens (u ∷ vs) p (sees_leaf c u vs m) h in
       absurd (take-or_fail g k.2 (fails_value {c = c} {t = u} {ts = vs} m n))
-  meets-taken t _ us _ z h (node_refused before vs k x (p, ne, l, q, c, n)) =
+  meets-taken t _ us _ z h (node_rejected before vs k x (p, ne, l, q, c, n)) =
       let w = run-takes g ok l d t.tokens (leaves x ++ vs) p (sees_node k x vs q ne) h in
       absurd (take-or_fail g w.2 (node_fails k x vs q c n))
 
   no_error : (t : Text) (z : ParseTree) → Takes g e t.tokens z [] → t.ending ≡ InputEnds → (other : Reason) (m : ℕ) → IsFault g e t other m → ⊥
-  no_error t z h k _ _ (bad_place b) = ends_once (sym k ∙ b)
+  no_error t z h k _ _ (lexical_error b) = ends_once (sym k ∙ b)
   no_error t z h k _ _ (unexpected_item front vs p i b n) =
       elim (no_earlier t.tokens [] front vs (leaves z) (takes-leaves g h) p (z, [], (fits-lax g (takes-fits g h), append-nil (leaves z))) n) [
         | inl l ↦ omega (arith, l, ap length p, length-append front vs)
         | inr j ↦ n z [] (fits-lax g (takes-fits g h), append-nil front ∙ sym j.0) (ap peek j.1)
       ]
-  no_error t z h k _ _ (leaf_refused front vs u c p l m n) =
+  no_error t z h k _ _ (leaf_rejected front vs u c p l m n) =
       let w = run-takes g ok l d t.tokens (u ∷ vs) p (sees_leaf c u vs m) h in
       take-or_fail g w.2 (fails_value {c = c} {t = u} {ts = vs} m n)
-  no_error t z h k _ _ (node_refused before vs j x (p, ne, l, q, c, n)) =
+  no_error t z h k _ _ (node_rejected before vs j x (p, ne, l, q, c, n)) =
       let w = run-takes g ok l d t.tokens (leaves x ++ vs) p (sees_node j x vs q ne) h in
       take-or_fail g w.2 (node_fails j x vs q c n)
 
@@ -255,7 +255,7 @@ module _ (g : Grammar) (ok : is_ll1 g.rows ≡ true) (full : is_productive g ≡
   index_is : (why : Reason) (ts us front : List Token) → ts ≡ front ++ us → index_of why (length ts - length us) ≡ length front + step why
   index_is Unexpected ts us front p = omega (arith, ap length p, length-append front us)
   index_is (Improper c) ts us front p = omega (arith, ap length p, length-append front us)
-  index_is (Refused k) ts us front p = omega (arith, ap length p, length-append front us)
+  index_is (RejectedNode k) ts us front p = omega (arith, ap length p, length-append front us)
 
   record Decided (t : Text) (why : Reason) (n : ℕ) : Type 0 where
     pub fault : IsFault g e t why n
@@ -275,7 +275,7 @@ module _ (g : Grammar) (ok : is_ll1 g.rows ≡ true) (full : is_productive g ≡
   at-item t front us p b n =
       elim (some-or-end us t.ending) [
         | inl i ↦ at-index t Unexpected (suc (length t.tokens)) (suc (length front)) (omega (arith, ap length p, length-append front us, ap length i.0))
-            (bad_place i.1)
+            (lexical_error i.1)
         | inr i ↦ unexpected_item front us p i b (n i)
       ]
 
@@ -283,11 +283,11 @@ module _ (g : Grammar) (ok : is_ll1 g.rows ≡ true) (full : is_productive g ≡
       → (u : Token) × (vs : List Token) × (d2 ≡ One c) × (rest ≡ u ∷ vs) × (us ≡ u ∷ vs) × (matches c u ≡ true) × (g.good c u ≡ false)
   source_value c _ _ _ (at_value {t = t} {ts = ts} m h) = (t, ts, refl, refl, refl, m, h)
 
-  source_check : (k : ℕ) (d2 : Expr) (rest us : List Token) → Source g d2 rest (Refused k) us
+  source_check : (k : ℕ) (d2 : Expr) (rest us : List Token) → Source g d2 rest (RejectedNode k) us
       → (x : ParseTree) × (d2 ≡ Sym k) × Takes g (row g k).rule rest x us × (g.check k x ≡ false)
   source_check k _ _ _ (at_check {x = x} t h) = (x, refl, t, h)
 
-  faulted : RefusesTokens g → (t : Text) (why : Reason) (us : List Token) → Fails g e t.tokens why us
+  faulted : RejectsTokens g → (t : Text) (why : Reason) (us : List Token) → Fails g e t.tokens why us
       → IsFault g e t why (index_of why (length t.tokens - length us))
   faulted tokens t Unexpected us h =
       let s = (first_fault g ok full e d f t.tokens us Unexpected h).fault in
@@ -300,16 +300,16 @@ module _ (g : Grammar) (ok : is_ll1 g.rows ≡ true) (full : is_productive g ≡
       let p : t.tokens ≡ s.front ++ v.0 ∷ v.1 = s.parts ∙ ap (λ (l : List Token). s.front ++ l) v.3 in
       at-index t (Improper c) (suc (length s.front)) (index_of (Improper c) (length t.tokens - length us))
       (omega (arith, index_is (Improper c) t.tokens us s.front (p ∙ ap (λ (l : List Token). s.front ++ l) (sym v.4))))
-      (leaf_refused s.front v.1 v.0 c p (subst (λ (a : Expr). Leads (lax g) e s.front a) v.2 s.leads) v.5 v.6)
-  faulted tokens t (Refused k) us h =
+      (leaf_rejected s.front v.1 v.0 c p (subst (λ (a : Expr). Leads (lax g) e s.front a) v.2 s.leads) v.5 v.6)
+  faulted tokens t (RejectedNode k) us h =
       let s = from g full h f in
       let v = source_check k s.place s.rest us s.source in
       let x = v.0 in
       let fits = takes-fits g v.2 in
       let p : t.tokens ≡ s.front ++ (leaves x ++ us) = s.parts ∙ ap (λ (l : List Token). s.front ++ l) (takes-leaves g v.2) in
-      at-index t (Refused k) (length (s.front ++ leaves x)) (index_of (Refused k) (length t.tokens - length us))
-      (omega (arith, index_is (Refused k) t.tokens us (s.front ++ leaves x) (p ∙ sym (append_assoc s.front (leaves x) us))))
-      (node_refused s.front us k x
+      at-index t (RejectedNode k) (length (s.front ++ leaves x)) (index_of (RejectedNode k) (length t.tokens - length us))
+      (omega (arith, index_is (RejectedNode k) t.tokens us (s.front ++ leaves x) (p ∙ sym (append_assoc s.front (leaves x) us))))
+      (node_rejected s.front us k x
       (p, (λ i. tokens k x fits v.3 i), subst (λ (a : Expr). Leads (lax g) e s.front a) v.1 s.leads, fits, v.3, stopped g ok k x s.rest us v.2))
 
   -- the same for the place that the reader returns
@@ -318,7 +318,7 @@ module _ (g : Grammar) (ok : is_ll1 g.rows ≡ true) (full : is_productive g ≡
   before-index why ts us front p other m (inl l) = inl (omega (arith, l, index_is why ts us front p, ap length p, length-append front us))
   before-index why ts us front p other m (inr l) = inr (omega (arith, l.0, index_is why ts us front p, ap length p, length-append front us), l.1)
 
-  decided-fails : RefusesTokens g → (t : Text) (why : Reason) (us : List Token) → Fails g e t.tokens why us
+  decided-fails : RejectsTokens g → (t : Text) (why : Reason) (us : List Token) → Fails g e t.tokens why us
       → Decided t why (index_of why (length t.tokens - length us))
   decided-fails tokens t why us h =
       let s = (first_fault g ok full e d f t.tokens us why h).fault in
@@ -339,8 +339,8 @@ module _ (g : Grammar) (ok : is_ll1 g.rows ≡ true) (full : is_productive g ≡
       ends [] w i j y more b q = absurd (ends_once (sym (j refl) ∙ i refl))
       ends (u ∷ vs) w i j y more b q = absurd (some_peeked more q (taken-ends (lax g) ok e d t.tokens (u ∷ vs) z (takes-lax g w) y more b q).1)
 
-  decided : RefusesTokens g → (ts : List Token) (ending : Ending) (why : Reason) (place : ℕ) (o : Outcome) → ReadsTo g e ts o
-      → Rejected why place ≡ answer_of (record { tokens = ts; ending = ending }) o
+  decided : RejectsTokens g → (ts : List Token) (ending : Ending) (why : Reason) (place : ℕ) (o : Outcome) → ReadsTo g e ts o
+      → Rejected why place ≡ result_of (record { tokens = ts; ending = ending }) o
       → Decided (record { tokens = ts; ending = ending }) why (index_of why place)
   decided tokens ts ending why place (Fault other us) r h =
       let w = rejected_is why other place (length ts - length us) h in
@@ -360,7 +360,7 @@ module _ (g : Grammar) (ok : is_ll1 g.rows ≡ true) (full : is_productive g ≡
       subst (λ (a : Reason). Decided t a (index_of a place)) (sym w.0) (subst (λ (i : ℕ). Decided t Unexpected i) (sym n) (decided-taken t [] z r (λ i. refl)))
 
   no_fault_in_tree : (ts : List Token) (ending : Ending) (x : ParseTree) (o : Outcome) → ReadsTo g e ts o
-      → Tree x ≡ answer_of (record { tokens = ts; ending = ending }) o
+      → Tree x ≡ result_of (record { tokens = ts; ending = ending }) o
       → (other : Reason) (m : ℕ) → IsFault g e (record { tokens = ts; ending = ending }) other m → ⊥
   no_fault_in_tree ts ending x (Fault why us) r h = absurd cc
   no_fault_in_tree ts ending x (Done z (u ∷ us)) r h = absurd cc
@@ -375,23 +375,23 @@ module _ (g : Grammar) (ok : is_ll1 g.rows ≡ true) (full : is_productive g ≡
         | inr i ↦ (i.1, i.0)
       ]
 
-  pub answers_least : RefusesTokens g → ((t : Text) (why other : Reason) (n : ℕ) → IsFault g e t why n → IsFault g e t other n → why ≡ other)
-      → AnswersLeast g g e
-  answers_least tokens one_index = record {
+  pub returns_first_error : RejectsTokens g → ((t : Text) (why other : Reason) (n : ℕ) → IsFault g e t why n → IsFault g e t other n → why ≡ other)
+      → ReturnsFirstError g g e
+  returns_first_error tokens one_index = record {
     one_index = one_index;
     tree = λ t x a why n y. no_fault_in_tree t.tokens t.ending x a.0 a.1 a.2 why n y;
     wrong =
         λ t why place a. let x =
         decided tokens t.tokens t.ending why place a.0 a.1 a.2 in (x.fault, λ other m y. no_later (index_of why place) m (x.meets other m y));
-    one = λ t why other m n x y. let a = answer g ok e d t.tokens in one_of t why other m n x y (answer_of t a.0) a.0 a.1 refl;
+    one = λ t why other m n x y. let a = outcome_of g ok e d t.tokens in one_of t why other m n x y (result_of t a.0) a.0 a.1 refl;
   }
     where
       no_later : {why other : Reason} (n m : ℕ) → ((n < m) ⊎ ((n ≡ m) × (why ≡ other))) → n ≤ m
       no_later n m (inl i) = omega (arith, i)
       no_later n m (inr i) = omega (arith, i.0)
 
-      one_of : (t : Text) (why other : Reason) (m n : ℕ) → IsLeast g e t why m → IsLeast g e t other n → (a : Answer) (o : Outcome) → ReadsTo g e t.tokens o
-          → a ≡ answer_of t o → (why ≡ other) × (m ≡ n)
+      one_of : (t : Text) (why other : Reason) (m n : ℕ) → IsLeast g e t why m → IsLeast g e t other n → (a : WholeResult) (o : Outcome) → ReadsTo g e t.tokens o
+          → a ≡ result_of t o → (why ≡ other) × (m ≡ n)
       one_of t why other m n x y (Tree z) o r h = absurd (no_fault_in_tree t.tokens t.ending z o r h why m x.0)
       one_of t why other m n x y (Rejected w place) o r h =
           let u = decided tokens t.tokens t.ending w place o r h in

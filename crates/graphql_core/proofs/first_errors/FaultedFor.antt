@@ -1,9 +1,9 @@
 -- The errors of an input by a written grammar are those by its factored rules.
 use Rattle.std.proofs.Common.{◌≡◌, ℕ, true, false, List, [], ◌∷◌, ◌++◌, length, Option, refl, sym, ap, subst, ◌∙◌}
 use Rattle.graphql_core.specs.{Token, Expr, Then, Many, Sym, ParseTree, Node, Row, Grammar, row_at, row, leaves, peek, Fits, Begins, Ends, decides, is_ll1}
-use Rattle.graphql_core.specs.{is_tight, has_samples, is_productive, Reason, Refused, lax, Change, change_at, written, with_rows, EachIsFactored, leads_here}
+use Rattle.graphql_core.specs.{is_tight, has_samples, is_productive, Reason, RejectedNode, lax, Change, change_at, written, with_rows, EachIsFactored, leads_here}
 use Rattle.graphql_core.specs.{leads_before, leads_after, leads_first, leads_second, leads_turn, leads_later, leads_node, IsTested, Leads, Text, IsFault}
-use Rattle.graphql_core.specs.{bad_place, unexpected_item, leaf_refused, node_refused, IsRefused, AnswersLeast, RefusesTokens}
+use Rattle.graphql_core.specs.{lexical_error, unexpected_item, leaf_rejected, node_rejected, IsRejected, ReturnsFirstError, RejectsTokens}
 use Rattle.graphql_core.proofs.rules.{seconds, written-fits, written-leaves, seconds-fits, written-seconds, to-second, begins-written, ends-written}
 use Rattle.graphql_core.proofs.first_errors.OneIndex.{grammar_least, one_node}
 
@@ -78,15 +78,15 @@ module _ (g : Grammar) (rs : List Row) (cs : List Change) (each : EachIsFactored
   unfolding from-rule to-rule
   from-to k x f = (each k).back (seconds cs x) (seconds-fits g rs cs each f) ∙ written-seconds g rs cs each f
 
-  at-leaves : (h : Grammar) (e : Expr) (t : Text) (k : ℕ) (before xs ys : List Token) → xs ≡ ys → IsFault h e t (Refused k) (length (before ++ xs))
-      → IsFault h e t (Refused k) (length (before ++ ys))
-  at-leaves h e t k before xs ys i x = subst (λ (l : List Token). IsFault h e t (Refused k) (length (before ++ l))) i x
+  at-leaves : (h : Grammar) (e : Expr) (t : Text) (k : ℕ) (before xs ys : List Token) → xs ≡ ys → IsFault h e t (RejectedNode k) (length (before ++ xs))
+      → IsFault h e t (RejectedNode k) (length (before ++ ys))
+  at-leaves h e t k before xs ys i x = subst (λ (l : List Token). IsFault h e t (RejectedNode k) (length (before ++ l))) i x
 
   from-leaves : (k : ℕ) (x : ParseTree) → Fits g (row g k).rule x → leaves (from-rule k x) ≡ leaves x
   from-leaves k x f = sym (rule-leaves k (from-rule k x) (from-fits k x f)) ∙ ap leaves (from-to k x f)
 
-  node-written : (e : Expr) (ts : List Token) (k : ℕ) (x : ParseTree) (before us : List Token) → IsRefused (with_rows g rs cs) e ts k x before us
-      → IsRefused g e ts k (to-rule k x) before us
+  node-written : (e : Expr) (ts : List Token) (k : ℕ) (x : ParseTree) (before us : List Token) → IsRejected (with_rows g rs cs) e ts k x before us
+      → IsRejected g e ts k (to-rule k x) before us
   node-written e ts k x before us (p, ne, l, f, c, n) =
       let y = to-rule k x in
       let i = rule-leaves k x f in
@@ -99,8 +99,8 @@ module _ (g : Grammar) (rs : List Row) (cs : List Change) (each : EachIsFactored
         (λ u rest h b. n u rest h (begins-second (Sym k) (leaves x ++ u ∷ []) (subst (λ (m : List Token). Begins (lax g) (Sym k) (m ++ u ∷ [])) i b))),
       )
 
-  node-second : (e : Expr) (ts : List Token) (k : ℕ) (x : ParseTree) (before us : List Token) → IsRefused g e ts k x before us
-      → IsRefused (with_rows g rs cs) e ts k (from-rule k x) before us
+  node-second : (e : Expr) (ts : List Token) (k : ℕ) (x : ParseTree) (before us : List Token) → IsRejected g e ts k x before us
+      → IsRejected (with_rows g rs cs) e ts k (from-rule k x) before us
   node-second e ts k x before us (p, ne, l, f, c, n) =
       let i = from-leaves k x f in (
         p ∙ ap (λ (m : List Token). before ++ (m ++ us)) (sym i),
@@ -113,29 +113,29 @@ module _ (g : Grammar) (rs : List Row) (cs : List Change) (each : EachIsFactored
       )
 
   fault-written : (e : Expr) (t : Text) (why : Reason) (n : ℕ) → IsFault (with_rows g rs cs) e t why n → IsFault g e t why n
-  fault-written e t _ _ (bad_place b) = bad_place b
+  fault-written e t _ _ (lexical_error b) = lexical_error b
   fault-written e t _ _ (unexpected_item front us p i b n) =
       unexpected_item front us p i (begins-written (lax g) rs cs each_lax e front b) (ends-written (lax g) rs cs each_lax e front (peek us) n)
-  fault-written e t _ _ (leaf_refused front us u c p l m n) = leaf_refused front us u c p (leads-written tt l) m n
-  fault-written e t _ _ (node_refused before us k x r) =
+  fault-written e t _ _ (leaf_rejected front us u c p l m n) = leaf_rejected front us u c p (leads-written tt l) m n
+  fault-written e t _ _ (node_rejected before us k x r) =
       at-leaves g e t k before (leaves (to-rule k x)) (leaves x) (rule-leaves k x r.3)
-      (node_refused before us k (to-rule k x) (node-written e t.tokens k x before us r))
+      (node_rejected before us k (to-rule k x) (node-written e t.tokens k x before us r))
 
   fault-second : (e : Expr) (t : Text) (why : Reason) (n : ℕ) → IsFault g e t why n → IsFault (with_rows g rs cs) e t why n
-  fault-second e t _ _ (bad_place b) = bad_place b
+  fault-second e t _ _ (lexical_error b) = lexical_error b
   fault-second e t _ _ (unexpected_item front us p i b n) = unexpected_item front us p i (begins-second e front b) (ends-second e front (peek us) n)
-  fault-second e t _ _ (leaf_refused front us u c p l m n) = leaf_refused front us u c p (leads-second tt l) m n
-  fault-second e t _ _ (node_refused before us k x r) =
+  fault-second e t _ _ (leaf_rejected front us u c p l m n) = leaf_rejected front us u c p (leads-second tt l) m n
+  fault-second e t _ _ (node_rejected before us k x r) =
       at-leaves (with_rows g rs cs) e t k before (leaves (from-rule k x)) (leaves x) (from-leaves k x r.3)
-      (node_refused before us k (from-rule k x) (node-second e t.tokens k x before us r))
+      (node_rejected before us k (from-rule k x) (node-second e t.tokens k x before us r))
 
-  pub refuses_tokens_for : RefusesTokens g → RefusesTokens (with_rows g rs cs)
-  refuses_tokens_for tokens k x w c i = tokens k (to-rule k x) (rule-fits k x w) (sym (rule-check k x) ∙ c) (rule-leaves k x w ∙ i)
+  pub rejects_tokens_for : RejectsTokens g → RejectsTokens (with_rows g rs cs)
+  rejects_tokens_for tokens k x w c i = tokens k (to-rule k x) (rule-fits k x w) (sym (rule-check k x) ∙ c) (rule-leaves k x w ∙ i)
 
-  pub least_for : is_ll1 rs ≡ true → is_tight rs ≡ true → is_productive (with_rows g rs cs) ≡ true → RefusesTokens g
-      → (e : Expr) → decides rs e ≡ true → has_samples (with_rows g rs cs) e ≡ true → AnswersLeast g (with_rows g rs cs) e
+  pub least_for : is_ll1 rs ≡ true → is_tight rs ≡ true → is_productive (with_rows g rs cs) ≡ true → RejectsTokens g
+      → (e : Expr) → decides rs e ≡ true → has_samples (with_rows g rs cs) e ≡ true → ReturnsFirstError g (with_rows g rs cs) e
   least_for ok tight full tokens e d f =
-      let a = grammar_least (with_rows g rs cs) ok full tight e d f (refuses_tokens_for tokens) in
+      let a = grammar_least (with_rows g rs cs) ok full tight e d f (rejects_tokens_for tokens) in
       record {
         one_index = λ t why other n x y. a.one_index t why other n (fault-second e t why n x) (fault-second e t other n y);
         tree = λ t x b why n y. a.tree t x b why n (fault-second e t why n y);
@@ -145,17 +145,17 @@ module _ (g : Grammar) (rs : List Row) (cs : List Change) (each : EachIsFactored
       }
 
   -- If a node is rejected in the factored rule of a symbol, the written node is rejected in that symbol.
-  pub node_refused_for : (j : ℕ) (ts : List Token) (k : ℕ) (x : ParseTree) (before us : List Token)
-      → IsRefused (with_rows g rs cs) (row_at rs j).rule ts k x before us
-      → (y : ParseTree) × (written cs (Node k x) ≡ Node k y) × IsRefused g (Sym j) ts k y before us
+  pub node_rejected_for : (j : ℕ) (ts : List Token) (k : ℕ) (x : ParseTree) (before us : List Token)
+      → IsRejected (with_rows g rs cs) (row_at rs j).rule ts k x before us
+      → (y : ParseTree) × (written cs (Node k x) ≡ Node k y) × IsRejected g (Sym j) ts k y before us
   unfolding to-rule
-  node_refused_for j ts k x before us (p, ne, l, f, c, n) =
+  node_rejected_for j ts k x before us (p, ne, l, f, c, n) =
       (to-rule k x, refl, node-written (Sym j) ts k x before us (p, ne, leads_node l, f, c, n))
 
   -- in one symbol, at most one rejected node ends there
   pub one_node_for : is_ll1 rs ≡ true → is_tight rs ≡ true → is_productive (with_rows g rs cs) ≡ true
       → (e : Expr) → decides rs e ≡ true → has_samples (with_rows g rs cs) e ≡ true → (ts before us before2 vs : List Token) (k : ℕ) (x y : ParseTree)
-      → IsRefused g e ts k x before us → IsRefused g e ts k y before2 vs → length (before ++ leaves x) ≡ length (before2 ++ leaves y) → x ≡ y
+      → IsRejected g e ts k x before us → IsRejected g e ts k y before2 vs → length (before ++ leaves x) ≡ length (before2 ++ leaves y) → x ≡ y
   one_node_for ok tight full e d f ts before us before2 vs k x y a b h =
       let one = one_node (with_rows g rs cs) ok full tight e d f ts before us before2 vs k k (from-rule k x) (from-rule k y)
       (node-second e ts k x before us a) (node-second e ts k y before2 vs b)

@@ -4,13 +4,13 @@ use Rattle.std.proofs.Common.{length-append, arith, inl, inr, ◌⊎◌}
 use Rattle.std.proofs.lemmas.Bool.{both_ways, and_from}
 use Rattle.graphql_core.specs.{Token, Class, matches, Expr, One, Then, Either, Many, Sym, ParseTree, Both, First, Second, Stop, More, Node, Grammar, row}
 use Rattle.graphql_core.specs.{leaves, peek, Fits, fits_leaf, fits_both, fits_first, fits_second, fits_stop, fits_more, fits_node, Begins, Ends, first, cont}
-use Rattle.graphql_core.specs.{decides, is_ll1, is_tight, has_samples, is_productive, sees, Takes, takes_leaf, Reason, Improper, Refused}
+use Rattle.graphql_core.specs.{decides, is_ll1, is_tight, has_samples, is_productive, sees, Takes, takes_leaf, Reason, Improper, RejectedNode}
 use Rattle.graphql_core.specs.{fails_value, takes_both, takes_first, takes_second, takes_stop, takes_more, takes_node, lax, leads_here, leads_before}
-use Rattle.graphql_core.specs.{leads_after, leads_first, leads_second, leads_turn, leads_later, leads_node, Leads, Text, StopsBefore, IsFault, IsRefused}
-use Rattle.graphql_core.specs.{bad_place, unexpected_item, leaf_refused, node_refused, AnswersLeast, RefusesTokens}
+use Rattle.graphql_core.specs.{leads_after, leads_first, leads_second, leads_turn, leads_later, leads_node, Leads, Text, StopsBefore, IsFault, IsRejected}
+use Rattle.graphql_core.specs.{lexical_error, unexpected_item, leaf_rejected, node_rejected, ReturnsFirstError, RejectsTokens}
 use Rattle.graphql_core.proofs.grammar.{begins-around, begins-after, fits-lax, takes-lax, sees-apart, takes-leaves, IsRow-each, complete, both, either, many}
 use Rattle.graphql_core.proofs.grammar.{same-take, take-or_fail, goes-left, goes-right, leads-first, same_rest, run-takes}
-use Rattle.graphql_core.proofs.first_errors.Faulted.{sees_leaf, sees_node, positive, node_takes, node_fails, no_earlier, answers_least}
+use Rattle.graphql_core.proofs.first_errors.Faulted.{sees_leaf, sees_node, positive, node_takes, node_fails, no_earlier, returns_first_error}
 use Rattle.graphql_core.proofs.grammar.Deterministic.{left_right}
 
 module _ (g : Grammar) (ok : is_ll1 g.rows ≡ true) where
@@ -148,7 +148,7 @@ leaf_takes g (takes_leaf h) = refl
 class_is : (a b : Class) → One a ≡ One b → Improper b ≡ Improper a
 class_is a b h = cc
 
-symbol_is : (k j : ℕ) (x y : ParseTree) → Node k x ≡ Node j y → Refused k ≡ Refused j
+symbol_is : (k j : ℕ) (x y : ParseTree) → Node k x ≡ Node j y → RejectedNode k ≡ RejectedNode j
 symbol_is k j x y h = cc
 
 no_leaf : (c : Class) (k : ℕ) → Sym k ≡ One c → ⊥
@@ -156,7 +156,7 @@ no_leaf c k h = cc
 
 -- A list of e can have a list of d after front. The next tokens are xs, whose last token has the index n. Whatever d
 -- takes there ends after xs.
-record Stands (g : Grammar) (e d : Expr) (ts front xs us : List Token) (n : ℕ) : Type 0 where
+record CanEndAt (g : Grammar) (e d : Expr) (ts front xs us : List Token) (n : ℕ) : Type 0 where
   pub parts : ts ≡ front ++ (xs ++ us)
   pub leads : Leads (lax g) e front d
   pub begins : Begins (lax g) e (front ++ xs)
@@ -192,9 +192,9 @@ module _ (g : Grammar) (ok : is_ll1 g.rows ≡ true) (full : is_productive g ≡
       (node_takes g ok full tight e d f k x us p n) in
       absurd (take-or_fail g t.2 (node_fails g ok full tight e d f j y vs q c r))
 
-  leaf_stands : (ts front us : List Token) (u : Token) (c : Class) → ts ≡ front ++ u ∷ us → Leads (lax g) e front (One c) → matches c u ≡ true
-      → Stands g e (One c) ts front (u ∷ []) us (suc (length front))
-  leaf_stands ts front us u c p l m = record {
+  leaf_can_end : (ts front us : List Token) (u : Token) (c : Class) → ts ≡ front ++ u ∷ us → Leads (lax g) e front (One c) → matches c u ≡ true
+      → CanEndAt g e (One c) ts front (u ∷ []) us (suc (length front))
+  leaf_can_end ts front us u c p l m = record {
     parts = p;
     leads = l;
     begins = leads-begins g l (fits_leaf {t = u} (and_from (matches c u) true m refl));
@@ -204,9 +204,9 @@ module _ (g : Grammar) (ok : is_ll1 g.rows ≡ true) (full : is_productive g ≡
     index = omega arith;
   }
 
-  node_stands : (ts before us : List Token) (k : ℕ) (x : ParseTree) → IsRefused g e ts k x before us
-      → Stands g e (Sym k) ts before (leaves x) us (length (before ++ leaves x))
-  node_stands ts before us k x (p, ne, l, w, c, n) = record {
+  node_can_end : (ts before us : List Token) (k : ℕ) (x : ParseTree) → IsRejected g e ts k x before us
+      → CanEndAt g e (Sym k) ts before (leaves x) us (length (before ++ leaves x))
+  node_can_end ts before us k x (p, ne, l, w, c, n) = record {
     parts = p;
     leads = l;
     begins = leads-begins g {z = Node k x} l (fits_node (fits-lax g w) refl);
@@ -217,13 +217,13 @@ module _ (g : Grammar) (ok : is_ll1 g.rows ≡ true) (full : is_productive g ≡
   }
 
   -- the index is not past the tokens
-  not_past : {a : Expr} {ts front xs us : List Token} {m n : ℕ} → Stands g e a ts front xs us n → m ≡ n → m ≡ suc (length ts) → ⊥
+  not_past : {a : Expr} {ts front xs us : List Token} {m n : ℕ} → CanEndAt g e a ts front xs us n → m ≡ n → m ≡ suc (length ts) → ⊥
   not_past {front = front} {xs = xs} {us = us} s h k =
       omega (arith, h, k, s.index, ap length s.parts, length-append front (xs ++ us), length-append xs us)
 
   -- nor is it that of an unexpected item
   not_unexpected : {a : Expr} {ts front2 xs us : List Token} {m n : ℕ} (front vs : List Token) → ts ≡ front ++ vs → Ends (lax g) e front (peek vs)
-      → Stands g e a ts front2 xs us n → m ≡ n → m ≡ suc (length front) → ⊥
+      → CanEndAt g e a ts front2 xs us n → m ≡ n → m ≡ suc (length front) → ⊥
   not_unexpected {ts = ts} {front2 = front2} {xs = xs} {us = us} front vs p n s h k =
       elim (no_earlier g ok full tight e d f ts us front vs (front2 ++ xs) (s.parts ∙ sym (append_assoc front2 xs us)) p s.begins n) [
         | inl l ↦ omega (arith, l, h, k, s.index, ap length s.parts, length-append front2 (xs ++ us), length-append xs us)
@@ -231,7 +231,7 @@ module _ (g : Grammar) (ok : is_ll1 g.rows ≡ true) (full : is_productive g ≡
       ]
 
   -- of two with the same index, neither ends before the other
-  not_before : {a b : Expr} {ts front xs us front2 ys vs : List Token} {m n : ℕ} → Stands g e a ts front xs us m → Stands g e b ts front2 ys vs n → m ≡ n
+  not_before : {a b : Expr} {ts front xs us front2 ys vs : List Token} {m n : ℕ} → CanEndAt g e a ts front xs us m → CanEndAt g e b ts front2 ys vs n → m ≡ n
       → Within g ok a (xs ++ us) (ys ++ vs) → ⊥
   not_before {front = front} {xs = xs} {us = us} {front2 = front2} {ys = ys} {vs = vs} s r h w = omega (
     arith,
@@ -253,7 +253,7 @@ module _ (g : Grammar) (ok : is_ll1 g.rows ≡ true) (full : is_productive g ≡
   abbrev Inside : Expr → Expr → List Token → List Token → Type 0
   Inside a b rest rest2 = (mid : List Token) × Leads (lax g) a mid b × (rest ≡ mid ++ rest2)
 
-  inside : {a b : Expr} {ts front xs us front2 ys vs : List Token} {m n : ℕ} → Stands g e a ts front xs us m → Stands g e b ts front2 ys vs n → m ≡ n
+  inside : {a b : Expr} {ts front xs us front2 ys vs : List Token} {m n : ℕ} → CanEndAt g e a ts front xs us m → CanEndAt g e b ts front2 ys vs n → m ≡ n
       → Inside a b (xs ++ us) (ys ++ vs) ⊎ Inside b a (ys ++ vs) (xs ++ us)
   inside {ts = ts} {xs = xs} {us = us} {ys = ys} {vs = vs} s r h =
       elim (compare g ok s.leads r.leads d ts (xs ++ us) (ys ++ vs) s.parts r.parts s.seen r.seen) [
@@ -265,50 +265,50 @@ module _ (g : Grammar) (ok : is_ll1 g.rows ≡ true) (full : is_productive g ≡
       ]
 
   leaf_node : (ts front us before vs : List Token) (u : Token) (c : Class) (k : ℕ) (x : ParseTree) → ts ≡ front ++ u ∷ us → Leads (lax g) e front (One c)
-      → matches c u ≡ true → g.good c u ≡ false → IsRefused g e ts k x before vs → suc (length front) ≡ length (before ++ leaves x) → ⊥
+      → matches c u ≡ true → g.good c u ≡ false → IsRejected g e ts k x before vs → suc (length front) ≡ length (before ++ leaves x) → ⊥
   leaf_node ts front us before vs u c k x p l m b r h =
-      elim (inside (leaf_stands ts front us u c p l m) (node_stands ts before vs k x r) h) [
+      elim (inside (leaf_can_end ts front us u c p l m) (node_can_end ts before vs k x r) h) [
         | inl i ↦ no_leaf c k (one_leads (lax g) i.1)
         | inr i ↦ leaf_within k x vs c u us i.0 r.3 r.5 m b i.2 i.1
       ]
 
   -- no two rejected nodes end at the same place
-  pub one_node : (ts before us before2 vs : List Token) (k j : ℕ) (x y : ParseTree) → IsRefused g e ts k x before us → IsRefused g e ts j y before2 vs
+  pub one_node : (ts before us before2 vs : List Token) (k j : ℕ) (x y : ParseTree) → IsRejected g e ts k x before us → IsRejected g e ts j y before2 vs
       → length (before ++ leaves x) ≡ length (before2 ++ leaves y) → Node k x ≡ Node j y
   one_node ts before us before2 vs k j x y r q h =
-      elim (inside (node_stands ts before us k x r) (node_stands ts before2 vs j y q) h) [
+      elim (inside (node_can_end ts before us k x r) (node_can_end ts before2 vs j y q) h) [
         | inl i ↦ node_within k j x y us vs i.0 r.3 r.5 q.3 q.4 q.1 q.5 i.2 i.1
         | inr i ↦ sym (node_within j k y x vs us i.0 q.3 q.5 r.3 r.4 r.1 r.5 i.2 i.1)
       ]
 
   pub one_index : (t : Text) (why other : Reason) (m n : ℕ) → IsFault g e t why m → IsFault g e t other n → m ≡ n → why ≡ other
-  one_index t _ _ _ _ (bad_place b) (bad_place b2) h = refl
-  one_index t _ _ _ _ (bad_place b) (unexpected_item front us p i b2 n) h = refl
-  one_index t _ _ _ _ (bad_place b) (leaf_refused front us u c p l m n) h = absurd (not_past (leaf_stands t.tokens front us u c p l m) h refl)
-  one_index t _ _ _ _ (bad_place b) (node_refused before us k x r) h = absurd (not_past (node_stands t.tokens before us k x r) h refl)
-  one_index t _ _ _ _ (unexpected_item front us p i b n) (bad_place b2) h = refl
+  one_index t _ _ _ _ (lexical_error b) (lexical_error b2) h = refl
+  one_index t _ _ _ _ (lexical_error b) (unexpected_item front us p i b2 n) h = refl
+  one_index t _ _ _ _ (lexical_error b) (leaf_rejected front us u c p l m n) h = absurd (not_past (leaf_can_end t.tokens front us u c p l m) h refl)
+  one_index t _ _ _ _ (lexical_error b) (node_rejected before us k x r) h = absurd (not_past (node_can_end t.tokens before us k x r) h refl)
+  one_index t _ _ _ _ (unexpected_item front us p i b n) (lexical_error b2) h = refl
   one_index t _ _ _ _ (unexpected_item front us p i b n) (unexpected_item front2 us2 p2 i2 b2 n2) h = refl
-  one_index t _ _ _ _ (unexpected_item front us p i b n) (leaf_refused front2 us2 u c p2 l m n2) h =
-      absurd (not_unexpected front us p n (leaf_stands t.tokens front2 us2 u c p2 l m) h refl)
-  one_index t _ _ _ _ (unexpected_item front us p i b n) (node_refused before us2 k x r) h =
-      absurd (not_unexpected front us p n (node_stands t.tokens before us2 k x r) h refl)
-  one_index t _ _ _ _ (leaf_refused front us u c p l m n) (leaf_refused front2 us2 v k p2 l2 m2 n2) h =
-      elim (inside (leaf_stands t.tokens front us u c p l m) (leaf_stands t.tokens front2 us2 v k p2 l2 m2) h) [
+  one_index t _ _ _ _ (unexpected_item front us p i b n) (leaf_rejected front2 us2 u c p2 l m n2) h =
+      absurd (not_unexpected front us p n (leaf_can_end t.tokens front2 us2 u c p2 l m) h refl)
+  one_index t _ _ _ _ (unexpected_item front us p i b n) (node_rejected before us2 k x r) h =
+      absurd (not_unexpected front us p n (node_can_end t.tokens before us2 k x r) h refl)
+  one_index t _ _ _ _ (leaf_rejected front us u c p l m n) (leaf_rejected front2 us2 v k p2 l2 m2 n2) h =
+      elim (inside (leaf_can_end t.tokens front us u c p l m) (leaf_can_end t.tokens front2 us2 v k p2 l2 m2) h) [
         | inl i ↦ class_is k c (one_leads (lax g) i.1)
         | inr i ↦ sym (class_is c k (one_leads (lax g) i.1))
       ]
-  one_index t _ _ _ _ (leaf_refused front us u c p l m n) (node_refused before vs k x r) h =
+  one_index t _ _ _ _ (leaf_rejected front us u c p l m n) (node_rejected before vs k x r) h =
       absurd (leaf_node t.tokens front us before vs u c k x p l m n r h)
-  one_index t _ _ _ _ (node_refused before us k x r) (node_refused before2 vs j y q) h =
+  one_index t _ _ _ _ (node_rejected before us k x r) (node_rejected before2 vs j y q) h =
       symbol_is k j x y (one_node t.tokens before us before2 vs k j x y r q h)
-  one_index t _ _ _ _ (leaf_refused front us u c p l m n) (bad_place b) h = absurd (not_past (leaf_stands t.tokens front us u c p l m) (sym h) refl)
-  one_index t _ _ _ _ (leaf_refused front2 us2 u c p2 l m n2) (unexpected_item front us p i b n) h =
-      absurd (not_unexpected front us p n (leaf_stands t.tokens front2 us2 u c p2 l m) (sym h) refl)
-  one_index t _ _ _ _ (node_refused before us k x r) (bad_place b) h = absurd (not_past (node_stands t.tokens before us k x r) (sym h) refl)
-  one_index t _ _ _ _ (node_refused before us2 k x r) (unexpected_item front us p i b n) h =
-      absurd (not_unexpected front us p n (node_stands t.tokens before us2 k x r) (sym h) refl)
-  one_index t _ _ _ _ (node_refused before vs k x r) (leaf_refused front us u c p l m n) h =
+  one_index t _ _ _ _ (leaf_rejected front us u c p l m n) (lexical_error b) h = absurd (not_past (leaf_can_end t.tokens front us u c p l m) (sym h) refl)
+  one_index t _ _ _ _ (leaf_rejected front2 us2 u c p2 l m n2) (unexpected_item front us p i b n) h =
+      absurd (not_unexpected front us p n (leaf_can_end t.tokens front2 us2 u c p2 l m) (sym h) refl)
+  one_index t _ _ _ _ (node_rejected before us k x r) (lexical_error b) h = absurd (not_past (node_can_end t.tokens before us k x r) (sym h) refl)
+  one_index t _ _ _ _ (node_rejected before us2 k x r) (unexpected_item front us p i b n) h =
+      absurd (not_unexpected front us p n (node_can_end t.tokens before us2 k x r) (sym h) refl)
+  one_index t _ _ _ _ (node_rejected before vs k x r) (leaf_rejected front us u c p l m n) h =
       absurd (leaf_node t.tokens front us before vs u c k x p l m n r (sym h))
 
-  pub grammar_least : RefusesTokens g → AnswersLeast g g e
-  grammar_least tokens = answers_least g ok full tight e d f tokens (λ t why other n x y. one_index t why other n n x y refl)
+  pub grammar_least : RejectsTokens g → ReturnsFirstError g g e
+  grammar_least tokens = returns_first_error g ok full tight e d f tokens (λ t why other n x y. one_index t why other n n x y refl)

@@ -6,9 +6,9 @@ use Rattle.graphql_core.specs.{Token, Class, matches, Expr, Empty, One, Then, Ei
 use Rattle.graphql_core.specs.{Node, Row, Grammar, row_at, row, accepts, leaves, peek, Derives, Begins, Ends, Fits, fits_nothing, fits_leaf, fits_both}
 use Rattle.graphql_core.specs.{fits_first, fits_second, fits_stop, fits_more, fits_node, first, decides, is_ll1, sample_in, has_samples, has_tree, are_full}
 use Rattle.graphql_core.specs.{is_productive, sees, choose, Takes, takes_nothing, takes_leaf, takes_both, takes_first, takes_second, takes_stop, takes_more}
-use Rattle.graphql_core.specs.{takes_node, Reason, Unexpected, Improper, Refused, Fails, fails_one, fails_value, fails_before, fails_after, fails_first}
+use Rattle.graphql_core.specs.{takes_node, Reason, Unexpected, Improper, RejectedNode, Fails, fails_one, fails_value, fails_before, fails_after, fails_first}
 use Rattle.graphql_core.specs.{fails_second, fails_neither, fails_turn, fails_later, fails_node, fails_check, with_tests, unchecked, lax, IsValue}
-use Rattle.graphql_core.specs.{IsRefusedBefore}
+use Rattle.graphql_core.specs.{IsRejectedBefore}
 use Rattle.graphql_core.proofs.grammar.Sound.{takes-fits, takes-leaves, takes-local, same_item}
 use Rattle.graphql_core.proofs.grammar.Complete.{complete, some_is}
 use Rattle.graphql_core.proofs.grammar.Deterministic.{same-take, take-or_fail}
@@ -111,7 +111,7 @@ pub record Stuck (g : Grammar) (e : Expr) (ts : List Token) (why : Reason) (us :
   pub parts : ts ≡ front ++ us
   pub begins : Begins (unchecked g) e front
   pub value : (c : Class) → why ≡ Improper c → IsValue g e front c us
-  pub refused : (k : ℕ) → why ≡ Refused k → IsRefusedBefore g front k
+  pub rejected : (k : ℕ) → why ≡ RejectedNode k → IsRejectedBefore g front k
   pub again : (vs : List Token) → peek vs ≡ peek us → Fails g e (front ++ vs) why vs
 
 pub begins-around : (h : Grammar) (a e : Expr) (ts : List Token) (wrap : ParseTree → ParseTree) (end : List Token)
@@ -131,7 +131,7 @@ begins-tree g e x = (x.0, leaves x.0, (fits-unchecked g x.1, refl))
 -- an error at once, before any token
 at-once : (g : Grammar) (e : Expr) (ts : List Token) → HasTree g e → ((vs : List Token) → peek vs ≡ peek ts → Fails g e vs Unexpected vs)
     → Stuck g e ts Unexpected ts
-at-once g e ts x again = record { front = []; parts = refl; begins = begins-tree g e x; value = λ c i. absurd cc; refused = λ k i. absurd cc; again = again }
+at-once g e ts x again = record { front = []; parts = refl; begins = begins-tree g e x; value = λ c i. absurd cc; rejected = λ k i. absurd cc; again = again }
 
 improper_is : (c d : Class) → Improper c ≡ Improper d → c ≡ d
 improper_is c d h = cc
@@ -149,24 +149,24 @@ at-value g c t ts x m h = record {
   begins = begins-tree g (One c) x;
   value = λ d i. subst (λ (k : Class). IsValue g (One c) [] k (t ∷ ts)) (improper_is c d i)
       (record { token = t; rest = ts; is = refl; of_class = m; not_good = h; begins = (Leaf t, [], (fits_leaf (and_from (matches c t) true m refl), refl)) });
-  refused = λ k i. absurd cc;
+  rejected = λ k i. absurd cc;
   again = again_value g c t m h;
 }
 
 -- a tree that does not pass its check
-at-check : (g : Grammar) (k : ℕ) (ts us : List Token) (x : ParseTree) → Takes g (row g k).rule ts x us → g.check k x ≡ false → Stuck g (Sym k) ts (Refused k) us
+at-check : (g : Grammar) (k : ℕ) (ts us : List Token) (x : ParseTree) → Takes g (row g k).rule ts x us → g.check k x ≡ false → Stuck g (Sym k) ts (RejectedNode k) us
 at-check g k ts us x p h = record {
   front = leaves x;
   parts = takes-leaves g p;
   begins = (Node k x, [], (fits_node (fits-unchecked g (takes-fits g p)) refl, append-nil (leaves x)));
   value = λ c i. absurd cc;
-  refused = λ j i. subst (λ (l : ℕ). IsRefusedBefore g (leaves x) l) (refused_is k j i)
+  rejected = λ j i. subst (λ (l : ℕ). IsRejectedBefore g (leaves x) l) (same_rejected k j i)
       (record { tree = x; before = []; parts = refl; fits = takes-fits g p; check = h });
   again = λ vs i. fails_check (takes-local g p vs i) h;
 }
   where
-    refused_is : (a b : ℕ) → Refused a ≡ Refused b → a ≡ b
-    refused_is a b e = cc
+    same_rejected : (a b : ℕ) → RejectedNode a ≡ RejectedNode b → a ≡ b
+    same_rejected a b e = cc
 
 -- the same token without a value, after other tokens of another expression
 pub value_in : {g h : Grammar} {a e : Expr} {front before us : List Token} {c : Class} (v : IsValue g a front c us) → h.good c v.token ≡ false
@@ -183,7 +183,7 @@ around g a e ts us why s wrap end fit lax_fit same again = record {
   parts = s.parts;
   begins = begins-around (unchecked g) a e s.front wrap end fit same s.begins;
   value = λ c i. let v = s.value c i in value_in v v.not_good (begins-around (lax g) a e (s.front ++ v.token ∷ []) wrap end lax_fit same v.begins);
-  refused = s.refused;
+  rejected = s.rejected;
   again = λ vs k. again vs (same_item ts s.front us vs s.parts k) (s.again vs k);
 }
 
@@ -200,7 +200,7 @@ after g a b e ts us vs x why p s wrap fit lax_fit same again = record {
   begins = begins-after (unchecked g) b e (leaves x) s.front wrap fit same s.begins;
   value = λ c i. let v = s.value c i in value_in v v.not_good (subst (Begins (lax g) e) (sym (append_assoc (leaves x) s.front (v.token ∷ [])))
       (begins-after (lax g) b e (leaves x) (s.front ++ v.token ∷ []) wrap lax_fit same v.begins));
-  refused = λ k i. let r = s.refused k i in record {
+  rejected = λ k i. let r = s.rejected k i in record {
     tree = r.tree;
     before = leaves x ++ r.before;
     parts = ap (λ (l : List Token). leaves x ++ l) r.parts

@@ -4,7 +4,7 @@ use Rattle.std.proofs.Common.{length-append, arith, inl, inr, ◌⊎◌}
 use Rattle.std.proofs.lemmas.Bool.{both_ways}
 use Rattle.graphql_core.specs.{Token, Class, all_apart, Expr, Then, Many, ParseTree, Grammar, row, leaves, peek, Fits, only_if, nullable, first, cont, decides}
 use Rattle.graphql_core.specs.{is_ll1, sees, choose, Left, Right, Takes, takes_nothing, takes_leaf, takes_both, takes_first, takes_second, takes_stop}
-use Rattle.graphql_core.specs.{takes_more, takes_node, Reason, Refused, Fails, fails_one, fails_value, fails_before, fails_after, fails_first, fails_second}
+use Rattle.graphql_core.specs.{takes_more, takes_node, Reason, RejectedNode, Fails, fails_one, fails_value, fails_before, fails_after, fails_first, fails_second}
 use Rattle.graphql_core.specs.{fails_neither, fails_turn, fails_later, fails_node, fails_check, lax, leads_here, leads_before, leads_after, leads_first}
 use Rattle.graphql_core.specs.{leads_second, leads_turn, leads_later, leads_node, Leads}
 use Rattle.graphql_core.proofs.grammar.Classes.{all_within-sound, in_any-left, in_any-right}
@@ -28,7 +28,7 @@ sees-if false cs item k h = absurd cc
 
 -- errors for this reason are counted at the last token before, the others at the next item
 abbrev pub step : Reason → ℕ
-step (Refused k) = 0
+step (RejectedNode k) = 0
 step why = 1
 
 module _ (g : Grammar) (ok : is_ll1 g.rows ≡ true) where

@@ -6,7 +6,7 @@ use Rattle.graphql_core.specs.{first, decides, ranked, is_ll1, sees, choose, Cho
 use Rattle.graphql_core.specs.{fails_before, fails_neither, fails_turn, Done, Fault}
 use Rattle.graphql_core.proofs.grammar.Sound.{takes-fits, takes-leaves}
 use Rattle.graphql_core.proofs.grammar.Complete.{IsRow-each, fits-nullable, both, either, many}
-use Rattle.graphql_core.proofs.grammar.Answering.{ReaderAnswer, leaf_answer, then_taken, turn_taken, first_answer, second_answer, node_answer}
+use Rattle.graphql_core.proofs.grammar.ReaderOutcomes.{ReaderOutcome, leaf_outcome, then_taken, turn_taken, first_outcome, second_outcome, node_outcome}
 
 -- ---- ranks
 
@@ -48,22 +48,22 @@ ranked-highest rs (Sym k) = lt-ltb (row_at rs k).rank (highest rs) (below-highes
 
 -- ---- one step
 
-then_answer : (g : Grammar) (a b : Expr) (ts : List Token) → ReaderAnswer g a ts → ((x : ParseTree) (us : List Token) → Takes g a ts x us → ReaderAnswer g b us)
-    → ReaderAnswer g (Then a b) ts
-then_answer g a b ts (Done x us, q) go = then_taken g q (go x us q)
-then_answer g a b ts (Fault why us, q) go = (Fault why us, fails_before q)
+then_outcome : (g : Grammar) (a b : Expr) (ts : List Token) → ReaderOutcome g a ts → ((x : ParseTree) (us : List Token) → Takes g a ts x us → ReaderOutcome g b us)
+    → ReaderOutcome g (Then a b) ts
+then_outcome g a b ts (Done x us, q) go = then_taken g q (go x us q)
+then_outcome g a b ts (Fault why us, q) go = (Fault why us, fails_before q)
 
-turn_answer : (g : Grammar) (a : Expr) (ts : List Token) → sees (first g.rows a) (peek ts) ≡ true → ReaderAnswer g a ts
-    → ((x : ParseTree) (us : List Token) → Takes g a ts x us → ReaderAnswer g (Many a) us) → ReaderAnswer g (Many a) ts
-turn_answer g a ts h (Done x us, q) go = turn_taken g h q (go x us q)
-turn_answer g a ts h (Fault why us, q) go = (Fault why us, fails_turn h q)
+turn_outcome : (g : Grammar) (a : Expr) (ts : List Token) → sees (first g.rows a) (peek ts) ≡ true → ReaderOutcome g a ts
+    → ((x : ParseTree) (us : List Token) → Takes g a ts x us → ReaderOutcome g (Many a) us) → ReaderOutcome g (Many a) ts
+turn_outcome g a ts h (Done x us, q) go = turn_taken g h q (go x us q)
+turn_outcome g a ts h (Fault why us, q) go = (Fault why us, fails_turn h q)
 
-either_answer : (g : Grammar) (a b : Expr) (ts : List Token) → ReaderAnswer g a ts → ReaderAnswer g b ts → ReaderAnswer g (Either a b) ts
-either_answer g a b ts p q = go (choose g.rows a b (peek ts)) refl
+either_outcome : (g : Grammar) (a b : Expr) (ts : List Token) → ReaderOutcome g a ts → ReaderOutcome g b ts → ReaderOutcome g (Either a b) ts
+either_outcome g a b ts p q = go (choose g.rows a b (peek ts)) refl
   where
-    go : (c : Choice) → choose g.rows a b (peek ts) ≡ c → ReaderAnswer g (Either a b) ts
-    go Left h = first_answer g h p
-    go Right h = second_answer g h q
+    go : (c : Choice) → choose g.rows a b (peek ts) ≡ c → ReaderOutcome g (Either a b) ts
+    go Left h = first_outcome g h p
+    go Right h = second_outcome g h q
     go Neither h = (Fault Unexpected ts, fails_neither h)
 
 -- ---- all steps
@@ -82,19 +82,19 @@ pub no_longer : (g : Grammar) (a : Expr) (ts us : List Token) (x : ParseTree) �
 no_longer g a ts us x p = omega (arith, ap length (takes-leaves g p), length-append (leaves x) us)
 
 abbrev Shorter : Grammar → ℕ → Type 0
-Shorter g n = (e : Expr) → decides g.rows e ≡ true → (ts : List Token) → length ts < n → ReaderAnswer g e ts
+Shorter g n = (e : Expr) → decides g.rows e ≡ true → (ts : List Token) → length ts < n → ReaderOutcome g e ts
 
 abbrev Lower : Grammar → ℕ → ℕ → Type 0
-Lower g n r = (k : ℕ) → (row g k).rank < r → (ts : List Token) → length ts ≤ n → ReaderAnswer g (Sym k) ts
+Lower g n r = (k : ℕ) → (row g k).rank < r → (ts : List Token) → length ts ≤ n → ReaderOutcome g (Sym k) ts
 
 at-expr : (g : Grammar) → is_ll1 g.rows ≡ true → (n r : ℕ) → Shorter g n → Lower g n r → (e : Expr) → decides g.rows e ≡ true → ranked g.rows r e ≡ true
-    → (ts : List Token) → length ts ≤ n → ReaderAnswer g e ts
+    → (ts : List Token) → length ts ≤ n → ReaderOutcome g e ts
 at-expr g ok n r sh lo Empty d k ts le = (Done Nothing ts, takes_nothing)
-at-expr g ok n r sh lo (One c) d k ts le = leaf_answer g c ts
+at-expr g ok n r sh lo (One c) d k ts le = leaf_outcome g c ts
 at-expr g ok n r sh lo (Then a b) d k ts le =
     let d1 = both g a b d in
     let k1 = and_parts (ranked g.rows r a) _ k in
-    then_answer g a b ts (at-expr g ok n r sh lo a d1.0 k1.0 ts le)
+    then_outcome g a b ts (at-expr g ok n r sh lo a d1.0 k1.0 ts le)
     (λ x us p. elim (or_cases (not (nullable g.rows a)) (ranked g.rows r b) k1.1) [
       | inl i ↦ let lt = shorter g ok a ts us x i p in sh b d1.1 us (omega arith)
       | inr i ↦ let l = no_longer g a ts us x p in at-expr g ok n r sh lo b d1.1 i us (omega arith)
@@ -102,12 +102,12 @@ at-expr g ok n r sh lo (Then a b) d k ts le =
 at-expr g ok n r sh lo (Either a b) d k ts le =
     let d1 = either g a b d in
     let k1 = and_parts (ranked g.rows r a) (ranked g.rows r b) k in
-    either_answer g a b ts (at-expr g ok n r sh lo a d1.0 k1.0 ts le) (at-expr g ok n r sh lo b d1.1 k1.1 ts le)
+    either_outcome g a b ts (at-expr g ok n r sh lo a d1.0 k1.0 ts le) (at-expr g ok n r sh lo b d1.1 k1.1 ts le)
 at-expr g ok n r sh lo (Many a) d k ts le =
     let d1 = many g a d in
     elim (cases_Bool (sees (first g.rows a) (peek ts))) [
       | inr h ↦ (Done Stop ts, takes_stop h)
-      | inl h ↦ turn_answer g a ts h (at-expr g ok n r sh lo a d1.0 k ts le)
+      | inl h ↦ turn_outcome g a ts h (at-expr g ok n r sh lo a d1.0 k ts le)
           (λ x us p. let lt = shorter g ok a ts us x d1.1 p in sh (Many a) d us (omega arith))
     ]
 at-expr g ok n r sh lo (Sym k) d h ts le = lo k (ltb-true _ _ h) ts le
@@ -116,7 +116,7 @@ at-rank : (g : Grammar) → is_ll1 g.rows ≡ true → (n : ℕ) → Shorter g n
 at-rank g ok n sh zero k lt ts le = absurd (omega arith)
 at-rank g ok n sh (suc r) k lt ts le =
     let i = IsRow-each g.rows ok k in
-    node_answer g (at-expr g ok n r sh (at-rank g ok n sh r) (row g k).rule i.decides
+    node_outcome g (at-expr g ok n r sh (at-rank g ok n sh r) (row g k).rule i.decides
     (ranked-more g.rows (row g k).rank r (row g k).rule (omega arith) i.ranked) ts le)
 
 at-length : (g : Grammar) → is_ll1 g.rows ≡ true → (n : ℕ) → Shorter g n
@@ -125,5 +125,5 @@ at-length g ok (suc n) e d ts lt =
     let sh = at-length g ok n in
     at-expr g ok n (highest g.rows) sh (at-rank g ok n sh (highest g.rows)) e d (ranked-highest g.rows e) ts (omega arith)
 
-pub answer : (g : Grammar) → is_ll1 g.rows ≡ true → (e : Expr) → decides g.rows e ≡ true → (ts : List Token) → ReaderAnswer g e ts
-answer g ok e d ts = at-length g ok (suc (length ts)) e d ts (omega arith)
+pub outcome_of : (g : Grammar) → is_ll1 g.rows ≡ true → (e : Expr) → decides g.rows e ≡ true → (ts : List Token) → ReaderOutcome g e ts
+outcome_of g ok e d ts = at-length g ok (suc (length ts)) e d ts (omega arith)

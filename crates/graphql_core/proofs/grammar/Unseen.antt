@@ -2,15 +2,15 @@
 use Rattle.std.proofs.Common.{◌≡◌, true, false, List, [], ◌∷◌, ◌++◌, refl, sym, ap, subst, ◌∙◌}
 use Rattle.std.proofs.lemmas.Bool.{false≢true}
 use Rattle.graphql_core.specs.{Token, in_any, Expr, ParseTree, Grammar, leaves, peek, Begins, nullable, first, decides, is_ll1, has_samples, is_productive}
-use Rattle.graphql_core.specs.{sees, Takes, Reason, Unexpected, Improper, Refused, Fails, Outcome, Done, Fault, ReadsTo, unchecked, lax, IsFirstStop}
-use Rattle.graphql_core.specs.{RefusesTokens}
+use Rattle.graphql_core.specs.{sees, Takes, Reason, Unexpected, Improper, RejectedNode, Fails, Outcome, Done, Fault, ReadsTo, unchecked, lax, IsFirstStop}
+use Rattle.graphql_core.specs.{RejectsTokens}
 use Rattle.graphql_core.proofs.grammar.Items.{append-empty}
 use Rattle.graphql_core.proofs.grammar.Sound.{takes-fits, takes-leaves}
 use Rattle.graphql_core.proofs.grammar.Complete.{fits-first, fits-nullable}
-use Rattle.graphql_core.proofs.grammar.Total.{answer}
+use Rattle.graphql_core.proofs.grammar.Total.{outcome_of}
 use Rattle.graphql_core.proofs.grammar.Exact.{first_fault}
 
-module _ (g : Grammar) (ok : is_ll1 g.rows ≡ true) (full : is_productive g ≡ true) (tokens : RefusesTokens g) (e : Expr)
+module _ (g : Grammar) (ok : is_ll1 g.rows ≡ true) (full : is_productive g ≡ true) (tokens : RejectsTokens g) (e : Expr)
     (d : decides g.rows e ≡ true) (f : has_samples g e ≡ true) (something : nullable g.rows e ≡ false)
     (ts : List Token) (nothing : sees (first g.rows e) (peek ts) ≡ false) where
   not_first : (t : Token) (us : List Token) → ts ≡ t ∷ us → in_any (first g.rows e) t ≡ true → ⊥
@@ -43,13 +43,13 @@ module _ (g : Grammar) (ok : is_ll1 g.rows ≡ true) (full : is_productive g ≡
       by_reason (Improper c) us h s same none =
           let v = s.fault.value c refl in
           absurd (no_value us v.token v.rest same v.is (subst (λ (l : List Token). Begins (lax g) e (l ++ v.token ∷ [])) none v.begins))
-      by_reason (Refused k) us h s same none =
-          let r = s.refused k refl in
+      by_reason (RejectedNode k) us h s same none =
+          let r = s.rejected k refl in
           absurd (tokens k r.tree r.fits r.check (append-empty r.before (leaves r.tree) (sym r.parts ∙ none)).1)
 
   pub grammar_unseen : Fails g e ts Unexpected ts
   grammar_unseen =
-      let a = answer g ok e d ts in
+      let a = outcome_of g ok e d ts in
       by a.0 a.1
     where
       by : (o : Outcome) → ReadsTo g e ts o → Fails g e ts Unexpected ts

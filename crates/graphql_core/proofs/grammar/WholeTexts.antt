@@ -3,7 +3,7 @@ use Rattle.std.proofs.Common.{◌≡◌, ℕ, ◌+◌, ◌-◌, List, [], ◌∷
 use Rattle.std.proofs.Common.{length-append}
 use Rattle.std.proofs.lemmas.List.{take_at, drop_at}
 use Rattle.graphql_core.specs.{Token, Class, Expr, ParseTree, Grammar, leaves, peek, Derives, Begins, Ends, Takes, Reason, Unexpected, Improper, Outcome, Done}
-use Rattle.graphql_core.specs.{Fault, ReadsTo, unchecked, lax, IsExact, IsValue, Text, Ending, InputEnds, InvalidToken, Tree, Rejected, answer_of, Answers}
+use Rattle.graphql_core.specs.{Fault, ReadsTo, unchecked, lax, IsExact, IsValue, Text, Ending, InputEnds, InvalidToken, Tree, Rejected, result_of, HasResult}
 use Rattle.graphql_core.specs.{EndsAt, IsGrammarFaultAt, IsWhole}
 use Rattle.graphql_core.proofs.grammar.FirstFault.{fits-unchecked, fits-lax}
 
@@ -16,7 +16,7 @@ rejected_is a b m n h = (cc, cc)
 
 module _ (g : Grammar) (e : Expr) (x : IsExact g e) where
   gives-tree : (ts : List Token) (ending : Ending) (y : ParseTree) (o : Outcome) → ReadsTo g e ts o
-      → Tree y ≡ answer_of (record { tokens = ts; ending = ending }) o → Derives g e ts y × (ending ≡ InputEnds)
+      → Tree y ≡ result_of (record { tokens = ts; ending = ending }) o → Derives g e ts y × (ending ≡ InputEnds)
   gives-tree ts ending y (Fault why us) r h = absurd cc
   gives-tree ts ending y (Done z (u ∷ us)) r h = absurd cc
   gives-tree ts InputEnds y (Done z []) r h =
@@ -28,7 +28,7 @@ module _ (g : Grammar) (e : Expr) (x : IsExact g e) where
   gives-tree ts InvalidToken y (Done z []) r h = absurd cc
 
   tree-given : (ts : List Token) (ending : Ending) (y : ParseTree) → Derives g e ts y → ending ≡ InputEnds
-      → Answers g e (record { tokens = ts; ending = ending }) (Tree y)
+      → HasResult g e (record { tokens = ts; ending = ending }) (Tree y)
   tree-given ts InputEnds y d k = (Done y [], subst (λ (l : List Token). Takes g e l y []) (append-nil ts) (x.complete ts [] y d refl), refl)
   tree-given ts InvalidToken y d k = absurd cc
 
@@ -64,7 +64,7 @@ module _ (g : Grammar) (e : Expr) (x : IsExact g e) where
       other i = cc
 
   gives-place : (ts : List Token) (ending : Ending) (why : Reason) (place : ℕ) (o : Outcome) → ReadsTo g e ts o
-      → Rejected why place ≡ answer_of (record { tokens = ts; ending = ending }) o → IsPlace ts ending why place
+      → Rejected why place ≡ result_of (record { tokens = ts; ending = ending }) o → IsPlace ts ending why place
   gives-place ts ending why place (Fault other us) r h =
       let f = (x.earliest ts us other r).fault in
       let w = rejected_is why other place (length ts - length us) h in
@@ -131,6 +131,6 @@ module _ (g : Grammar) (e : Expr) (x : IsExact g e) where
   grammar_whole = record {
     tree = λ t y. (λ a. gives-tree t.tokens t.ending y a.0 a.1 a.2, λ d. tree-given t.tokens t.ending y d.0 d.1);
     wrong = λ t why place a. place-taken t why place (gives-place t.tokens t.ending why place a.0 a.1 a.2);
-    answer = λ t. let a = x.answers t.tokens in (answer_of t a.0, (a.0, a.1, refl));
-    one = λ t a b h k. h.2 ∙ ap (answer_of t) (x.one_answer t.tokens h.0 k.0 h.1 k.1) ∙ sym k.2;
+    has_result = λ t. let a = x.has_outcome t.tokens in (result_of t a.0, (a.0, a.1, refl));
+    one = λ t a b h k. h.2 ∙ ap (result_of t) (x.one_outcome t.tokens h.0 k.0 h.1 k.1) ∙ sym k.2;
   }

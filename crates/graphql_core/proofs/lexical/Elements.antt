@@ -9,18 +9,18 @@ use Rattle.graphql_core.specs.declared.tokenizer.piece.Skipped.{Skipped}
 use Rattle.graphql_core.specs.declared.tokenizer.piece.Taken.{Taken}
 use Rattle.graphql_core.specs.steps.Front.{FrontElement, Skips, Takes}
 use Rattle.graphql_core.specs.declared.tokenizer.token.Kind.{Kind}
-use Rattle.graphql_core.specs.{front, ignored_front, taken, Meaning, Ignored, TokenOf, Stands, BeginsNone}
+use Rattle.graphql_core.specs.{front, ignored_front, taken, Meaning, Ignored, TokenOf, IsLexicalElement, BeginsNone}
 use Rattle.graphql_core.specs.lexical.Elements.{ignored_kind, element_kind, BeginsWithElement}
-use Rattle.graphql_core.proofs.lexical.FrontIsPiece.{ahead_of, stands_front}
-use Rattle.graphql_core.proofs.lexical.OneCut.{Sees, front_sees}
+use Rattle.graphql_core.proofs.lexical.FrontIsPiece.{ahead_of, element_at_front}
+use Rattle.graphql_core.proofs.lexical.OneTokenization.{Sees, front_sees}
 use Rattle.graphql_core.proofs.lexical.Spaces.{skips_first}
 use Rattle.graphql_core.proofs.lexical.Tokens.{taken_front}
 
 -- the first `n` bytes are a lexical element of this meaning
-abbrev StandsFirst : List ℕ → ℕ → Meaning → Type 0
-StandsFirst text n m = Stands (take n text) m (drop n text) × (text ≡ take n text ++ drop n text)
+abbrev IsFirstElement : List ℕ → ℕ → Meaning → Type 0
+IsFirstElement text n m = IsLexicalElement (take n text) m (drop n text) × (text ≡ take n text ++ drop n text)
 
-at_length : (text bytes rest : List ℕ) (m : Meaning) (n : ℕ) → text ≡ bytes ++ rest → Stands bytes m rest → length bytes ≡ n → StandsFirst text n m
+at_length : (text bytes rest : List ℕ) (m : Meaning) (n : ℕ) → text ≡ bytes ++ rest → IsLexicalElement bytes m rest → length bytes ≡ n → IsFirstElement text n m
 at_length text bytes rest m n e st l =
     let first : take n text ≡ bytes = ap (take n) e ∙ take_at bytes rest n l in
     let last : drop n text ≡ rest = ap (drop n) e ∙ drop_at bytes rest n l in
@@ -34,17 +34,17 @@ same_take : (n i : ℕ) (k : Kind) (t : Nesting) (m : Meaning) → Takes n k t �
 same_take n i k t (Ignored o) e = absurd cc
 same_take n i k t (TokenOf j u) e = (cc, cc)
 
-skipped : (text : List ℕ) (n : ℕ) (m : Move) → front text ≡ Skips n m → StandsFirst text n (Ignored m)
+skipped : (text : List ℕ) (n : ℕ) (m : Move) → front text ≡ Skips n m → IsFirstElement text n (Ignored m)
 skipped text n m e =
     let (bytes, k, rest, is, st) = subst (Sees text) e (front_sees text) in
-    let (same, l) = same_skip n (length bytes) m k (sym e ∙ ap front is ∙ stands_front st) in
-    at_length text bytes rest (Ignored m) n is (subst (λ (o : Meaning). Stands bytes o rest) same st) l
+    let (same, l) = same_skip n (length bytes) m k (sym e ∙ ap front is ∙ element_at_front st) in
+    at_length text bytes rest (Ignored m) n is (subst (λ (o : Meaning). IsLexicalElement bytes o rest) same st) l
 
-took : (text : List ℕ) (n : ℕ) (k : Kind) (t : Nesting) → front text ≡ Takes n k t → StandsFirst text n (TokenOf k t)
+took : (text : List ℕ) (n : ℕ) (k : Kind) (t : Nesting) → front text ≡ Takes n k t → IsFirstElement text n (TokenOf k t)
 took text n k t e =
     let (bytes, m, rest, is, st) = subst (Sees text) e (front_sees text) in
-    let (same, l) = same_take n (length bytes) k t m (sym e ∙ ap front is ∙ stands_front st) in
-    at_length text bytes rest (TokenOf k t) n is (subst (λ (o : Meaning). Stands bytes o rest) same st) l
+    let (same, l) = same_take n (length bytes) k t m (sym e ∙ ap front is ∙ element_at_front st) in
+    at_length text bytes rest (TokenOf k t) n is (subst (λ (o : Meaning). IsLexicalElement bytes o rest) same st) l
 
 not_ahead : (m : Meaning) (n : ℕ) → ignored_front (ahead_of m n) ≡ None → taken (ahead_of m n) ≡ None → ⊥
 not_ahead (Ignored m) n h k = absurd cc
@@ -53,10 +53,10 @@ not_ahead (TokenOf j t) n h k = absurd cc
 -- no lexical element begins an input whose front is neither ignored text nor a token
 pub begins_none : (text : List ℕ) → ignored_front (front text) ≡ None → taken (front text) ≡ None → BeginsNone text
 begins_none text h k bytes m rest st e =
-    let same : front text ≡ ahead_of m (length bytes) = ap front e ∙ stands_front st in
+    let same : front text ≡ ahead_of m (length bytes) = ap front e ∙ element_at_front st in
     not_ahead m (length bytes) (subst (λ (x : FrontElement). ignored_front x ≡ None) same h) (subst (λ (x : FrontElement). taken x ≡ None) same k)
 
-as_element : (text first rest : List ℕ) (n : ℕ) (m : Meaning) (kind : ElementKind) → first ≡ take n text → rest ≡ drop n text → StandsFirst text n m
+as_element : (text first rest : List ℕ) (n : ℕ) (m : Meaning) (kind : ElementKind) → first ≡ take n text → rest ≡ drop n text → IsFirstElement text n m
     → element_kind first m ≡ kind → BeginsWithElement text kind first rest
 as_element text first rest n m kind e f (st, is) k = (m, rw (e, f) is, rw (e, f) st, k)
 

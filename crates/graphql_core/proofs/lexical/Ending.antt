@@ -26,4 +26,4 @@ pieces_end w [] stop = last_ends w stop
 pieces_end w (p ∷ ps) stop = piece_ends p.meaning (λ v. items_of v ps stop) w p.bytes (λ v. pieces_end v ps stop)
 
 pub end_once : (text : List ℕ) (items : List Item) → HasItems text items → EndsOnce items
-end_once text items (pieces, stop, cut, same) = subst EndsOnce (sym same) (pieces_end _ pieces stop)
+end_once text items (pieces, stop, tokenized, same) = subst EndsOnce (sym same) (pieces_end _ pieces stop)

@@ -2,7 +2,7 @@
 use Rattle.std.proofs.Common.{◌≡◌, ℕ, true, false, Bool, ◌&&◌, ◌||◌, ◌==◌, List, [], ◌∷◌, All, refl, sym, ap, ap₂, ◌∙◌, arith}
 use Rattle.std.proofs.lemmas.Bool.Decides.{nat_tests}
 use Rattle.std.proofs.lemmas.List.Elements.{All-head}
-use Rattle.graphql_core.specs.{name_token, punctuator_token, is_name_start, is_punctuator_byte, TokenOf, Stands, spread_token, integer_token, float_token}
+use Rattle.graphql_core.specs.{name_token, punctuator_token, is_name_start, is_punctuator_byte, TokenOf, IsLexicalElement, spread_token, integer_token, float_token}
 use Rattle.graphql_core.specs.{string_token, block_string_token, starts_number, Token, AnyOf, same_spelling, matches, peek, sees, kind_number, spelling_of}
 use Rattle.graphql_core.specs.{class_of, first_byte, front_byte, IsLexeme}
 use Rattle.graphql_core.proofs.lexical.Runs.{differs}
@@ -30,7 +30,7 @@ in_run : (xs : List ℕ) (b : ℕ) → NumberRun xs → starts_number b ≡ fals
 in_run xs b r other = ap (λ ys. first_byte ys == b) r.is ∙ differs starts_number r.first b r.starts other
 
 -- a punctuator of one character
-one_seen : (b : ℕ) → is_punctuator_byte b ≡ true → {k : Kind} {s : Nesting} {bytes rest : List ℕ} → Stands bytes (TokenOf k s) rest
+one_seen : (b : ℕ) → is_punctuator_byte b ≡ true → {k : Kind} {s : Nesting} {bytes rest : List ℕ} → IsLexicalElement bytes (TokenOf k s) rest
     → (first_byte bytes == b) ≡ IsMarked k (b ∷ []) bytes
 one_seen b is (name_token {b = f} h all stop) = differs is_name_start f b h (punctuator_no_name b is)
 one_seen b is (punctuator_token {b = f} h) = grind (arith)
@@ -41,7 +41,7 @@ one_seen b is (string_token body h n) = let e = differs is_punctuator_byte b 34 
 one_seen b is (block_string_token h) = let e = differs is_punctuator_byte b 34 is refl in rw (byte_back 34 b, e) refl
 
 -- three dots
-dots_seen : {k : Kind} {s : Nesting} {bytes rest : List ℕ} → Stands bytes (TokenOf k s) rest → (first_byte bytes == 46) ≡ IsMarked k (spelling_of Spread) bytes
+dots_seen : {k : Kind} {s : Nesting} {bytes rest : List ℕ} → IsLexicalElement bytes (TokenOf k s) rest → (first_byte bytes == 46) ≡ IsMarked k (spelling_of Spread) bytes
 dots_seen (name_token {b = f} h all stop) = differs is_name_start f 46 h refl
 dots_seen (punctuator_token {b = f} h) = let e = differs is_punctuator_byte f 46 h refl in rw (byte_back 46 f, e) refl
 dots_seen spread_token = refl
@@ -50,7 +50,7 @@ dots_seen (float_token {run = run} f e) = in_run run 46 (float_run f) refl
 dots_seen (string_token body h n) = refl
 dots_seen (block_string_token h) = refl
 
-punctuator_seen : (m : Punctuator) {k : Kind} {s : Nesting} {bytes rest : List ℕ} → Stands bytes (TokenOf k s) rest
+punctuator_seen : (m : Punctuator) {k : Kind} {s : Nesting} {bytes rest : List ℕ} → IsLexicalElement bytes (TokenOf k s) rest
     → (first_byte bytes == first_byte (spelling_of m)) ≡ IsMarked k (spelling_of m) bytes
 punctuator_seen Bang st = one_seen 33 refl st
 punctuator_seen Dollar st = one_seen 36 refl st
@@ -67,7 +67,7 @@ punctuator_seen OpenBrace st = one_seen 123 refl st
 punctuator_seen Pipe st = one_seen 124 refl st
 punctuator_seen CloseBrace st = one_seen 125 refl st
 
-name_seen : {k : Kind} {s : Nesting} {bytes rest : List ℕ} → Stands bytes (TokenOf k s) rest
+name_seen : {k : Kind} {s : Nesting} {bytes rest : List ℕ} → IsLexicalElement bytes (TokenOf k s) rest
     → is_name_start (first_byte bytes) ≡ (kind_number Name == kind_number k) && true
 name_seen (name_token h all stop) = h
 name_seen (punctuator_token {b = f} h) = punctuator_no_name f h
@@ -78,7 +78,7 @@ name_seen (string_token body h n) = refl
 name_seen (block_string_token h) = refl
 
 -- strings and block strings begin with a quote
-string_seen : {k : Kind} {s : Nesting} {bytes rest : List ℕ} → Stands bytes (TokenOf k s) rest
+string_seen : {k : Kind} {s : Nesting} {bytes rest : List ℕ} → IsLexicalElement bytes (TokenOf k s) rest
     → (first_byte bytes == 34) ≡ ((kind_number StringValue == kind_number k) && true) || ((kind_number BlockString == kind_number k) && true)
 string_seen (name_token {b = f} h all stop) = differs is_name_start f 34 h refl
 string_seen (punctuator_token {b = f} h) = differs is_punctuator_byte f 34 h refl
@@ -113,20 +113,20 @@ no_punctuator CloseBrace = refl
 pub sees_punctuator : (m : Punctuator) (ts : List Token) → All IsLexeme ts → (front_byte ts == first_byte (spelling_of m)) ≡ sees (class_of m ∷ []) (peek ts)
 sees_punctuator m [] all = no_punctuator m
 sees_punctuator m (t ∷ ts) all =
-    let (k, s, rest, kind, stands) = All-head IsLexeme t ts all in
-    punctuator_seen m stands ∙ ap (λ n. (kind_number kinds.Punctuator == n) && same_spelling (spelling_of m) t.spelling) (sym kind)
+    let (k, s, rest, kind, is_element) = All-head IsLexeme t ts all in
+    punctuator_seen m is_element ∙ ap (λ n. (kind_number kinds.Punctuator == n) && same_spelling (spelling_of m) t.spelling) (sym kind)
     ∙ or_false (matches (class_of m) t)
 
 pub sees_name : (ts : List Token) → All IsLexeme ts → is_name_start (front_byte ts) ≡ sees (AnyOf (kind_number Name) ∷ []) (peek ts)
 sees_name [] all = refl
 sees_name (t ∷ ts) all =
-    let (k, s, rest, kind, stands) = All-head IsLexeme t ts all in
-    name_seen stands ∙ ap (λ n. (kind_number Name == n) && true) (sym kind) ∙ or_false (matches (AnyOf (kind_number Name)) t)
+    let (k, s, rest, kind, is_element) = All-head IsLexeme t ts all in
+    name_seen is_element ∙ ap (λ n. (kind_number Name == n) && true) (sym kind) ∙ or_false (matches (AnyOf (kind_number Name)) t)
 
 pub sees_string : (ts : List Token) → All IsLexeme ts → (front_byte ts == 34)
     ≡ (sees (AnyOf (kind_number StringValue) ∷ []) (peek ts) || sees (AnyOf (kind_number BlockString) ∷ []) (peek ts))
 sees_string [] all = refl
 sees_string (t ∷ ts) all =
-    let (k, s, rest, kind, stands) = All-head IsLexeme t ts all in
-    string_seen stands ∙ ap (λ n. ((kind_number StringValue == n) && true) || ((kind_number BlockString == n) && true)) (sym kind)
+    let (k, s, rest, kind, is_element) = All-head IsLexeme t ts all in
+    string_seen is_element ∙ ap (λ n. ((kind_number StringValue == n) && true) || ((kind_number BlockString == n) && true)) (sym kind)
     ∙ ap₂ (λ x y. x || y) (or_false (matches (AnyOf (kind_number StringValue)) t)) (or_false (matches (AnyOf (kind_number BlockString)) t))

@@ -9,7 +9,7 @@ use Rattle.graphql_core.specs.declared.tokenizer.piece.Move.TheVariants.{Stay, D
 use Rattle.graphql_core.specs.steps.Front.{FrontElement, AtEnd, Skips, Takes}
 use Rattle.graphql_core.specs.declared.tokenizer.piece.Nesting.TheVariants.{Unchanged}
 use Rattle.graphql_core.specs.{front, front_of, other_token, comment, line_end, starts_number, number, is_name_start, is_name_continue, is_in_line}
-use Rattle.graphql_core.specs.{is_punctuator_byte, nesting_of, Meaning, Ignored, TokenOf, Stands, BeginsNone, ignored_tab, ignored_line_feed}
+use Rattle.graphql_core.specs.{is_punctuator_byte, nesting_of, Meaning, Ignored, TokenOf, IsLexicalElement, BeginsNone, ignored_tab, ignored_line_feed}
 use Rattle.graphql_core.specs.{ignored_space, ignored_comma, ignored_byte_order_mark, comment_at_end, comment_feed, comment_return_feed, comment_return}
 use Rattle.graphql_core.specs.{ignored_carriage_return}
 use Rattle.graphql_core.specs.{name_token, punctuator_token, spread_token, integer_token, float_token, string_token, block_string_token}
@@ -69,34 +69,34 @@ at_end line all = rw (append-nil line, run_all is_in_line line all, drop_all (le
 skips_same : (i j : ℕ) (m : Move) → i ≡ j → Skips i m ≡ Skips j m
 skips_same i j m e = ap (λ n. Skips n m) e
 
-pub stands_front : {bytes : List ℕ} {m : Meaning} {rest : List ℕ} → Stands bytes m rest → front (bytes ++ rest) ≡ ahead_of m (length bytes)
+pub element_at_front : {bytes : List ℕ} {m : Meaning} {rest : List ℕ} → IsLexicalElement bytes m rest → front (bytes ++ rest) ≡ ahead_of m (length bytes)
 unfolding front other_token
-stands_front ignored_tab = refl
-stands_front ignored_line_feed = refl
-stands_front ignored_carriage_return = refl
-stands_front ignored_space = refl
-stands_front ignored_comma = refl
-stands_front ignored_byte_order_mark = refl
-stands_front (comment_at_end line all) = at_end line all ∙ skips_same _ _ Stay (omega arith)
-stands_front (comment_feed line {rest} all) = ended line (10 ∷ []) rest all refl
+element_at_front ignored_tab = refl
+element_at_front ignored_line_feed = refl
+element_at_front ignored_carriage_return = refl
+element_at_front ignored_space = refl
+element_at_front ignored_comma = refl
+element_at_front ignored_byte_order_mark = refl
+element_at_front (comment_at_end line all) = at_end line all ∙ skips_same _ _ Stay (omega arith)
+element_at_front (comment_feed line {rest} all) = ended line (10 ∷ []) rest all refl
     ∙ skips_same (length line + 2) _ Down (omega (arith, length-append line (10 ∷ [])))
-stands_front (comment_return_feed line {rest} all) = ended line (13 ∷ 10 ∷ []) rest all refl
+element_at_front (comment_return_feed line {rest} all) = ended line (13 ∷ 10 ∷ []) rest all refl
     ∙ skips_same (length line + 3) _ Down (omega (arith, length-append line (13 ∷ 10 ∷ [])))
-stands_front (comment_return line {rest} all stop) =
+element_at_front (comment_return line {rest} all stop) =
     ended line (13 ∷ []) rest all refl ∙ rw (not_equal _ _ stop) (skips_same (length line + 2) _ Down (omega (arith, length-append line (13 ∷ []))))
-stands_front (name_token {b} {bs} {rest} first more stop) = name_first b (bs ++ rest) first
+element_at_front (name_token {b} {bs} {rest} first more stop) = name_first b (bs ++ rest) first
     ∙ rw (run is_name_continue bs rest more stop) (ap (λ n. Takes n Name Unchanged) (omega arith))
-stands_front (punctuator_token {b} {rest} h) = punctuator_first b rest h
-stands_front spread_token = refl
-stands_front (integer_token {run} {rest} h ends) = run_first run rest (integer_run run h) ∙ integer_front run rest h ends
-stands_front (float_token {run} {rest} h ends) = run_first run rest (float_run h) ∙ float_front run rest h ends
-stands_front (string_token body {rest} valid some) =
+element_at_front (punctuator_token {b} {rest} h) = punctuator_first b rest h
+element_at_front spread_token = refl
+element_at_front (integer_token {run} {rest} h ends) = run_first run rest (integer_run run h) ∙ integer_front run rest h ends
+element_at_front (float_token {run} {rest} h ends) = run_first run rest (float_run h) ∙ float_front run rest h ends
+element_at_front (string_token body {rest} valid some) =
     ap (λ l. front (34 ∷ l)) (append_assoc body (34 ∷ []) rest) ∙ string_front valid rest some
     ∙ ap (λ n. Takes n StringValue Unchanged) (omega (arith, length-append body (34 ∷ [])))
-stands_front (block_string_token {body} {rest} closes) = block_front closes rest ∙ ap (λ n. Takes n BlockString Unchanged) (omega arith)
+element_at_front (block_string_token {body} {rest} closes) = block_front closes rest ∙ ap (λ n. Takes n BlockString Unchanged) (omega arith)
 
 -- no lexical element begins at the end of the input
 pub begins_none_at_end : BeginsNone []
 unfolding front
-begins_none_at_end bytes (Ignored m) rest st e = let h : AtEnd ≡ ahead_of (Ignored m) (length bytes) = ap front e ∙ stands_front st in absurd cc
-begins_none_at_end bytes (TokenOf k t) rest st e = let h : AtEnd ≡ ahead_of (TokenOf k t) (length bytes) = ap front e ∙ stands_front st in absurd cc
+begins_none_at_end bytes (Ignored m) rest st e = let h : AtEnd ≡ ahead_of (Ignored m) (length bytes) = ap front e ∙ element_at_front st in absurd cc
+begins_none_at_end bytes (TokenOf k t) rest st e = let h : AtEnd ≡ ahead_of (TokenOf k t) (length bytes) = ap front e ∙ element_at_front st in absurd cc

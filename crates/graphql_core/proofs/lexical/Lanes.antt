@@ -36,7 +36,7 @@ same_prefix p q agree (suc n) (x ∷ xs) fits =
 pub lanes_run : (q : ℕ → Bool) (d : List ℕ) (n r : ℕ) (z : List ℕ) → n ≤ length d → n ≤ 64 → ((k : ℕ) → Fits w8 (get_or d k 0))
     → r ≡ first_set (mask_l (map (top 7) z) % 2 ^ 64) n → (f : ℕ → ℕ) → (length (take n d) ≡ n → z ≡ map f (take n d))
     → agree_below (λ x. top 7 (f x)) (λ x. not (q x)) 256 ≡ true → r ≡ prefix_len q (take n d)
-lanes_run q d n r z room few fits found f lanes all =
+lanes_run q d n r z capacity few fits found f lanes all =
     let v = take n d in
     let long : length v ≡ n = length-chunk 0 n d (omega arith) in
     let stops : ℕ → Bool = λ x. top 7 (f x) in
@@ -57,7 +57,7 @@ same_count p q agree (suc n) (x ∷ xs) fits =
 pub lanes_count : (q : ℕ → Bool) (d : List ℕ) (n r : ℕ) (z : List ℕ) → n ≤ length d → n ≤ 64 → ((k : ℕ) → Fits w8 (get_or d k 0))
     → r ≡ count_ones (mask_l (map (top 7) z) % 2 ^ 64) → (f : ℕ → ℕ) → (length (take n d) ≡ n → z ≡ map f (take n d))
     → agree_below (λ x. top 7 (f x)) q 256 ≡ true → r ≡ count_by q (take n d)
-lanes_count q d n r z room few fits counted f lanes all =
+lanes_count q d n r z capacity few fits counted f lanes all =
     let v = take n d in
     let long : length v ≡ n = length-chunk 0 n d (omega arith) in
     let set : ℕ → Bool = λ x. top 7 (f x) in
@@ -82,7 +82,7 @@ mask_drop (b ∷ ms) (suc k) =
 pub lanes_run_from : (q : ℕ → Bool) (d : List ℕ) (n start r : ℕ) (z : List ℕ) → start ≤ n → n ≤ length d → n ≤ 64 → ((k : ℕ) → Fits w8 (get_or d k 0))
     → r ≡ first_set (mask_l (map (top 7) z) % 2 ^ 64 / 2 ^ start) (n - start) → (f : ℕ → ℕ) → (length (take n d) ≡ n → z ≡ map f (take n d))
     → agree_below (λ x. top 7 (f x)) (λ x. not (q x)) 256 ≡ true → r ≡ prefix_len q (take (n - start) (drop start d))
-lanes_run_from q d n start r z le room few fits found f lanes all =
+lanes_run_from q d n start r z le capacity few fits found f lanes all =
     let v = take n d in
     let long : length v ≡ n = length-chunk 0 n d (omega arith) in
     let stops : ℕ → Bool = λ x. top 7 (f x) in
@@ -103,9 +103,9 @@ ends_short p n r d e other = omega (arith, e, other, prefix_len-le-length p (tak
 
 -- a run that ends within the first n bytes
 pub ends_within : (p : ℕ → Bool) (n : ℕ) (d : List ℕ) → n ≤ length d → prefix_len p (take n d) < n → prefix_len p d ≡ prefix_len p (take n d)
-ends_within p zero d room short = absurd (omega arith)
-ends_within p (suc n) [] room short = absurd (omega arith)
-ends_within p (suc n) (x ∷ xs) room short =
+ends_within p zero d capacity short = absurd (omega arith)
+ends_within p (suc n) [] capacity short = absurd (omega arith)
+ends_within p (suc n) (x ∷ xs) capacity short =
     elim (cases_Bool (p x)) [
       | inl pass ↦ rw pass (omega (arith, ends_within p n xs (omega arith) (omega (arith, rw pass at short))))
       | inr stop ↦ rw stop refl

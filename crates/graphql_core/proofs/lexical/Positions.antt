@@ -13,14 +13,14 @@ use Rattle.graphql_core.specs.declared.tokenizer.token.Kind.{Kind}
 use Rattle.graphql_core.specs.declared.tokenizer.piece.Nesting.{Nesting}
 use Rattle.graphql_core.specs.steps.Front.{FrontElement, AtEnd, Skips, Takes, Stops}
 use Rattle.graphql_core.specs.{front, is_flat, is_no_line_feed, IsFlat, past, past_character, past_characters, is_name_start, is_name_continue}
-use Rattle.graphql_core.specs.{is_punctuator_byte, Meaning, Ignored, TokenOf, Stands, ignored_tab, ignored_line_feed, ignored_carriage_return, ignored_space}
+use Rattle.graphql_core.specs.{is_punctuator_byte, Meaning, Ignored, TokenOf, IsLexicalElement, ignored_tab, ignored_line_feed, ignored_carriage_return, ignored_space}
 use Rattle.graphql_core.specs.{ignored_comma, ignored_byte_order_mark, comment_at_end, comment_feed, comment_return_feed, comment_return, name_token}
 use Rattle.graphql_core.specs.{punctuator_token, spread_token, integer_token, float_token, string_token, block_string_token}
 use Rattle.graphql_core.proofs.lexical.Runs.{all_weaken}
 use Rattle.graphql_core.proofs.lexical.Characters.{characters_no_feed}
 use Rattle.graphql_core.proofs.lexical.Numbers.{integer_run, float_run}
-use Rattle.graphql_core.proofs.lexical.FrontIsPiece.{ahead_of, stands_front}
-use Rattle.graphql_core.proofs.lexical.OneCut.{Sees, front_sees}
+use Rattle.graphql_core.proofs.lexical.FrontIsPiece.{ahead_of, element_at_front}
+use Rattle.graphql_core.proofs.lexical.OneTokenization.{Sees, front_sees}
 use Rattle.graphql_core.proofs.lexical.Spaces.{flat_below}
 
 -- ---- flat tokens
@@ -69,15 +69,15 @@ past_more (c ∷ cs) ds p = past_more cs ds (past_character c p)
 
 -- the position after an input whose front is whole characters
 past_front : (text : List ℕ) (n : ℕ) (p : Pos) → IsUtf8 text → IsCharBoundary text n → past text p ≡ past (drop n text) (past (take n text) p)
-past_front text n p utf8 cut =
+past_front text n p utf8 tokenized =
     ap (λ l. past l p) (sym (take-append-drop n text))
-    ∙ ap (λ cs. past_characters cs p) (chars-append (take n text) (drop n text) (IsUtf8-take text n utf8 cut))
+    ∙ ap (λ cs. past_characters cs p) (chars-append (take n text) (drop n text) (IsUtf8-take text n utf8 tokenized))
     ∙ past_more (chars (take n text)) (chars (drop n text)) p
 
 -- past the first part of an input
 pub past_part : (text : List ℕ) (n : ℕ) (at place : Pos) {part after : List ℕ} → part ≡ take n text → after ≡ drop n text → IsUtf8 text
     → IsCharBoundary text n → place ≡ past part at → past text at ≡ past after place
-past_part text n at place first rest utf8 cut is = rw (rest, is, first) (past_front text n at utf8 cut)
+past_part text n at place first rest utf8 tokenized is = rw (rest, is, first) (past_front text n at utf8 tokenized)
 
 -- the position after an input that begins with a character
 pub past_first : (text rest : List ℕ) (c : ℕ) (p : Pos) → IsUtf8 text → text ≡ encode_utf8 c ++ rest → past text p ≡ past rest (past_character c p)
@@ -98,24 +98,24 @@ abbrev FlatAs : Meaning → List ℕ → Type 0
 FlatAs (Ignored m) bytes = Unit {0}
 FlatAs (TokenOf k t) bytes = IsFlat k bytes
 
-stands_flat : {bytes : List ℕ} {m : Meaning} {rest : List ℕ} → Stands bytes m rest → FlatAs m bytes
-stands_flat ignored_tab = tt
-stands_flat ignored_line_feed = tt
-stands_flat ignored_carriage_return = tt
-stands_flat ignored_space = tt
-stands_flat ignored_comma = tt
-stands_flat ignored_byte_order_mark = tt
-stands_flat (comment_at_end line all) = tt
-stands_flat (comment_feed line all) = tt
-stands_flat (comment_return_feed line all) = tt
-stands_flat (comment_return line all stop) = tt
-stands_flat (name_token {b} {bs} first more stop) = λ e. rw (start_flat b first, all_weaken is_name_continue is_flat continue_flat bs more) refl
-stands_flat (punctuator_token {b} h) = λ e. rw (punctuator_flat b h) refl
-stands_flat spread_token = λ e. refl
-stands_flat (integer_token {run} h ends) = λ e. (integer_run run h).flat
-stands_flat (float_token h ends) = λ e. (float_run h).flat
-stands_flat (string_token body valid some) = λ e. absurd cc
-stands_flat (block_string_token closes) = λ e. absurd cc
+element_flat : {bytes : List ℕ} {m : Meaning} {rest : List ℕ} → IsLexicalElement bytes m rest → FlatAs m bytes
+element_flat ignored_tab = tt
+element_flat ignored_line_feed = tt
+element_flat ignored_carriage_return = tt
+element_flat ignored_space = tt
+element_flat ignored_comma = tt
+element_flat ignored_byte_order_mark = tt
+element_flat (comment_at_end line all) = tt
+element_flat (comment_feed line all) = tt
+element_flat (comment_return_feed line all) = tt
+element_flat (comment_return line all stop) = tt
+element_flat (name_token {b} {bs} first more stop) = λ e. rw (start_flat b first, all_weaken is_name_continue is_flat continue_flat bs more) refl
+element_flat (punctuator_token {b} h) = λ e. rw (punctuator_flat b h) refl
+element_flat spread_token = λ e. refl
+element_flat (integer_token {run} h ends) = λ e. (integer_run run h).flat
+element_flat (float_token h ends) = λ e. (float_run h).flat
+element_flat (string_token body valid some) = λ e. absurd cc
+element_flat (block_string_token closes) = λ e. absurd cc
 
 same_word : (m : Meaning) (n i : ℕ) (k : Kind) (t : Nesting) (bytes : List ℕ) → ahead_of m n ≡ Takes i k t → FlatAs m bytes → IsFlat k bytes × (n ≡ i)
 same_word (Ignored m) n i k t bytes e h = absurd cc
@@ -126,7 +126,7 @@ flat_by text n k t AtEnd e f s = absurd cc
 flat_by text n k t Stops e f s = absurd cc
 flat_by text n k t (Skips i m) e f s = absurd cc
 flat_by text n k t (Takes i l u) e f (bytes, m, rest, is, st) =
-    let (flat, len) = same_word m (length bytes) n k t bytes (sym (stands_front st) ∙ ap front (sym is) ∙ e ∙ f) (stands_flat st) in
+    let (flat, len) = same_word m (length bytes) n k t bytes (sym (element_at_front st) ∙ ap front (sym is) ∙ e ∙ f) (element_flat st) in
     subst (IsFlat k) (sym (ap (take n) is ∙ take_at bytes rest n len)) flat
 
 -- a token at the front that is no string is flat

@@ -22,7 +22,7 @@ use Rattle.graphql_core.specs.{items_by, BeginsWithNext, AreItemsOfRest, further
 use Rattle.graphql_core.specs.{is_space, is_space_or_comma, is_line_feed, is_spacing, can_begin_ignored, columns_of, moved}
 use Rattle.graphql_core.proofs.lexical.Runs.{differs, run_widens}
 use Rattle.graphql_core.proofs.lexical.FrontFits.{further_skip, front_fits, front_within, items_at, next_place_items, PieceFits}
-use Rattle.graphql_core.proofs.lexical.OneCut.{has_items_from}
+use Rattle.graphql_core.proofs.lexical.OneTokenization.{has_items_from}
 use Rattle.graphql_core.proofs.lexical.Spaces.{no_front, item_first}
 
 -- ---- tokens
@@ -302,9 +302,9 @@ pub feed_boundary : (bytes : List ℕ) → is_line_feed (get_or bytes 0 0) ≡ t
 feed_boundary bytes h utf8 = past_byte bytes _ utf8 (feed_front bytes h)
 
 -- a test of the first byte has the result that was found
-pub first_told : (p : ℕ → Bool) (bytes : List ℕ) {byte : ℕ} {found answer : Bool} → byte ≡ get_or bytes 0 0 → found ≡ p byte → found ≡ answer
-    → p (get_or bytes 0 0) ≡ answer
-first_told p bytes first found told = ap p (sym first) ∙ sym found ∙ told
+pub first_decided : (p : ℕ → Bool) (bytes : List ℕ) {byte : ℕ} {found is_true : Bool} → byte ≡ get_or bytes 0 0 → found ≡ p byte → found ≡ is_true
+    → p (get_or bytes 0 0) ≡ is_true
+first_decided p bytes first found stated = ap p (sym first) ∙ sym found ∙ stated
 
 none_of : (b : ℕ) → can_begin_ignored b ≡ false
     → ((b == 9) ≡ false) × ((b == 10) ≡ false) × ((b == 13) ≡ false) × (is_space_or_comma b ≡ false) × ((b == 35) ≡ false) × ((b == 239) ≡ false)

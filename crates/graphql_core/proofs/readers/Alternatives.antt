@@ -68,26 +68,26 @@ in_nth (Either a b) (suc n) x = Second (in_nth b n x)
 in_nth e n x = x
 
 -- the class c decides this alternative
-abbrev pub tells_nth : List Row → Class → Expr → ℕ → Bool
-tells_nth rs c (Either a b) zero = all_within (c ∷ []) (first rs a)
-tells_nth rs c (Either a b) (suc n) = (decides rs (Either a b) && all_within (c ∷ []) (first rs b)) && tells_nth rs c b n
-tells_nth rs c e n = true
+abbrev pub decides_nth : List Row → Class → Expr → ℕ → Bool
+decides_nth rs c (Either a b) zero = all_within (c ∷ []) (first rs a)
+decides_nth rs c (Either a b) (suc n) = (decides rs (Either a b) && all_within (c ∷ []) (first rs b)) && decides_nth rs c b n
+decides_nth rs c e n = true
 
 side_whole : (g : Grammar) (e : Expr) (ts : List Token) → IsSide g e e (λ x. x) ts
 side_whole g e ts = record { takes = λ us x t. t; fails = λ us why s. s; leads = λ us d l. l }
 
-pub side_nth : {g : Grammar} {ts : List Token} (c : Class) (e : Expr) (n : ℕ) → tells_nth g.rows c e n ≡ true → sees (c ∷ []) (trees.peek ts) ≡ true
+pub side_nth : {g : Grammar} {ts : List Token} (c : Class) (e : Expr) (n : ℕ) → decides_nth g.rows c e n ≡ true → sees (c ∷ []) (trees.peek ts) ≡ true
     → IsSide g e (nth_side e n) (λ x. in_nth e n x) ts
-side_nth {g} {ts} c (Either a b) zero told seen = side_first g a b c ts told seen
-side_nth {g} {ts} c (Either a b) (suc n) told seen =
-    let (here, later) = and_parts (decides g.rows (Either a b) && all_within (c ∷ []) (first g.rows b)) (tells_nth g.rows c b n) told in
+side_nth {g} {ts} c (Either a b) zero stated seen = side_first g a b c ts stated seen
+side_nth {g} {ts} c (Either a b) (suc n) stated seen =
+    let (here, later) = and_parts (decides g.rows (Either a b) && all_within (c ∷ []) (first g.rows b)) (decides_nth g.rows c b n) stated in
     let (decided, within) = and_parts (decides g.rows (Either a b)) (all_within (c ∷ []) (first g.rows b)) here in
     through g (Either a b) b (nth_side b n) (λ x. Second x) (λ x. in_nth b n x) ts (side_second g a b c ts decided within seen) (side_nth c b n later seen)
-side_nth {g} {ts} c Empty n told seen = side_whole g Empty ts
-side_nth {g} {ts} c (One d) n told seen = side_whole g (One d) ts
-side_nth {g} {ts} c (Then a b) n told seen = side_whole g (Then a b) ts
-side_nth {g} {ts} c (Many a) n told seen = side_whole g (Many a) ts
-side_nth {g} {ts} c (Sym k) n told seen = side_whole g (Sym k) ts
+side_nth {g} {ts} c Empty n stated seen = side_whole g Empty ts
+side_nth {g} {ts} c (One d) n stated seen = side_whole g (One d) ts
+side_nth {g} {ts} c (Then a b) n stated seen = side_whole g (Then a b) ts
+side_nth {g} {ts} c (Many a) n stated seen = side_whole g (Many a) ts
+side_nth {g} {ts} c (Sym k) n stated seen = side_whole g (Sym k) ts
 
 -- ---- the alternative that remains if the other is not seen
 

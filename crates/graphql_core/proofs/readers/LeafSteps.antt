@@ -33,5 +33,5 @@ module _ {T : Type 0} (bytes : T → List ℕ) (k : Kind) (i : Items) (t : Lexem
   next_taken new good e = takes_one shared (any k) i new (lexeme_token bytes t) good (takes_token (any k) i new (lexeme_token bytes t) n.first e next_matches)
 
   -- the token has no value
-  pub next_refused : has_value (kind_number k) (bytes t.text) ≡ false → StopsFor shared (One (any k)) i i (Some (Improper (any k)))
-  next_refused bad = (subst (λ ts. Fails shared (One (any k)) ts (Improper (any k)) ts) (sym n.first) (fails_value next_matches bad), refl)
+  pub next_rejected : has_value (kind_number k) (bytes t.text) ≡ false → StopsFor shared (One (any k)) i i (Some (Improper (any k)))
+  next_rejected bad = (subst (λ ts. Fails shared (One (any k)) ts (Improper (any k)) ts) (sym n.first) (fails_value next_matches bad), refl)

@@ -2,7 +2,7 @@
 use Rattle.std.proofs.Common.{◌≡◌, ℕ, List, [], ◌++◌, length, map, take, drop, sym, ap, ◌∙◌}
 use Rattle.std.proofs.lemmas.List.{take-map, drop-map, length-map, append-nil}
 use Rattle.std.proofs.Math.Seq.{take-append_seam, drop-append_seam}
-use Rattle.graphql_core.specs.steps.Answers.{Adds}
+use Rattle.graphql_core.specs.steps.ReaderResults.{Adds}
 
 module _ {V A : Type 0} (f : V → A) (start found : List V) (xs : List A) (added : Adds f start found xs) where
   -- what was in the list before stays

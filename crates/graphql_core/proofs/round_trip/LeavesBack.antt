@@ -8,14 +8,14 @@ use Rattle.std.proofs.lemmas.Fmt.{decimal_is_IsNumeral, decimal_by_steps}
 use Rattle.std.proofs.lemmas.List.Folds.{list_all-append}
 use Rattle.graphql_core.proofs.grammar.{same_spelling-true}
 use Rattle.graphql_core.specs.{is_name_continue, is_delimiter, is_in, is_natural, EndsRun, IsStringBody, body_ends, body_character, body_escape, name_token}
-use Rattle.graphql_core.specs.{integer_token, float_token, string_token, IsName, is_integer, NamesCharacter, StandsFor, HasValue, is_listed, same_spelling}
+use Rattle.graphql_core.specs.{integer_token, float_token, string_token, IsName, is_integer, NamesCharacter, Denotes, HasValue, is_listed, same_spelling}
 use Rattle.graphql_core.specs.{IsFloatLiteral, shared, any, enum_class, int_of, string_of, without_ends, IsNameBut, hexadecimal_digit, unicode_escape}
 use Rattle.graphql_core.specs.{quoted_byte, quoted}
 use Rattle.std.proofs.lemmas.Bool.Decides.{nat_tests}
 use Rattle.std.proofs.lemmas.Str.{encode_ascii}
 use Rattle.graphql_core.proofs.strings.{literal_is_float, in_range, whole_exponent, in_quotes, some_unquoted, string_means}
 use Rattle.graphql_core.proofs.layouts.{IsWord}
-use Rattle.graphql_core.proofs.round_trip.ReadingBack.{Takes}
+use Rattle.graphql_core.proofs.round_trip.ParsingBack.{Takes}
 use Rattle.std.specs.Fmt.{decimal, signed_decimal}
 use Rattle.std.specs.List.{list_all, flat_map, AllByRecursion}
 use Rattle.graphql_core.specs.declared.tokenizer.token.Kind.TheVariants.{Name, IntValue, FloatValue, StringValue}
@@ -117,7 +117,7 @@ float_takes text h p = (whole_exponent text (literal_is_float text h)).1 h
 
 -- these bytes between quotes denote this byte
 record IsUnit (unit : List ℕ) (b : ℕ) : Type 0 where
-  value : StandsFor unit (b ∷ [])
+  value : Denotes unit (b ∷ [])
   body : (more : List ℕ) → IsStringBody more → IsStringBody (unit ++ more)
 
 pick : (b : ℕ) (t : Bool) (x y : List ℕ) → (t ≡ true → IsUnit x b) → (t ≡ false → IsUnit y b) → IsUnit (cond t x y) b
@@ -125,7 +125,7 @@ pick b true x y f g = f refl
 pick b false x y f g = g refl
 
 -- a backslash and a character
-escape_unit : (c b : ℕ) → c ≢ 10 → StandsFor (92 ∷ c ∷ []) (b ∷ []) → IsUnit (92 ∷ c ∷ []) b
+escape_unit : (c b : ℕ) → c ≢ 10 → Denotes (92 ∷ c ∷ []) (b ∷ []) → IsUnit (92 ∷ c ∷ []) b
 escape_unit c b other s = record { value = s; body = λ more h. body_escape other h }
 
 -- what holds of each number below n, by a test
@@ -164,7 +164,7 @@ control_unit b l =
     let (hex, value) = and_parts (list_all is_ascii_hexdigit (digits_of b)) (digits_value 16 (digits_of b) == b) (below_at 32 control_test refl b l) in
     let names : NamesCharacter (digits_of b) b = record { four = refl; hexadecimal = hex; value = eqb-true _ _ value; exists = control_scalar b l } in
     record {
-      value = subst (StandsFor (unicode_escape b)) (encode_ascii b (omega arith)) (units.escaped_unicode (digits_of b) b names);
+      value = subst (Denotes (unicode_escape b)) (encode_ascii b (omega arith)) (units.escaped_unicode (digits_of b) b names);
       body = λ more h. body_escape (λ e. omega arith) (hex_body (digits_of b) hex more h);
     }
 

@@ -1,10 +1,10 @@
 -- Lists parse back if each of their elements does: elements in parentheses, and the definitions of a document.
 use Rattle.std.proofs.Common.{◌≡◌, ℕ, ◌+◌, ◌≤◌, Bool, true, false, List, [], ◌∷◌, ◌++◌, codes, map, refl, sym, ap, ap₂, subst, arith, append_assoc}
 use Rattle.graphql_core.specs.{Grammar, Expr, Then, Many, Sym, ParseTree, Node, row, optional, some_of, punctuator_part}
-use Rattle.graphql_core.specs.{text_of, Part, punctuator_class, punctuator, IsReadBack, each_after, after_commas}
+use Rattle.graphql_core.specs.{text_of, Part, punctuator_class, punctuator, ParsesBackTo, each_after, after_commas}
 use Rattle.graphql_core.specs.{in_parentheses, most, most_enclosed, each_of, optional_list_of, enclosed_of, Language}
-use Rattle.graphql_core.proofs.round_trip.ReadingBack.{Back, Takes, as_word_back, same_parts, gap_back, open_back, close_back, both_back, first_back, node_back}
-use Rattle.graphql_core.proofs.round_trip.ReadingBack.{stop_back, more_back, three_back, read_back, second_back, nothing_back}
+use Rattle.graphql_core.proofs.round_trip.ParsingBack.{Back, Takes, as_word_back, same_parts, gap_back, open_back, close_back, both_back, first_back, node_back}
+use Rattle.graphql_core.proofs.round_trip.ParsingBack.{stop_back, more_back, three_back, parses_back, second_back, nothing_back}
 use Rattle.graphql_core.proofs.layouts.{is_blank}
 use Rattle.std.specs.List.{AllByRecursion, list_all}
 use Rattle.graphql_core.specs.declared.tokenizer.token.Kind.TheVariants.{Punctuator}
@@ -48,7 +48,7 @@ in_parentheses_back {g = g} {k = k} f erase lines P Q brackets rule passes opens
 
 -- a layout that the grammar derives as a document parses back to that document, ignoring positions
 pub document_back : {D : Type 0} (l : Language D) {q : Bool} {f : ℕ} {ps : List Part} (t : D)
-    → Back l.grammar (Sym l.document) false 0 ps q f (λ x. l.erase (l.means x) ≡ l.erase t) → IsReadBack l (text_of ps) t
+    → Back l.grammar (Sym l.document) false 0 ps q f (λ x. l.erase (l.means x) ≡ l.erase t) → ParsesBackTo l (text_of ps) t
 document_back l t back =
-    let (items, has, x, derives, end, same) = read_back back in
+    let (items, has, x, derives, end, same) = parses_back back in
     (l.means x, (items, has, (x, derives, end, refl)), same)

@@ -2,8 +2,8 @@
 use Rattle.std.proofs.Common.{◌≡◌, ℕ, ◌+◌, ◌≤◌, Bool, true, false, List, [], ◌∷◌, ◌++◌, codes, refl, sym, ap, ◌∙◌, arith, append_assoc, append-nil}
 use Rattle.graphql_core.specs.{punctuator_part, Part, token, Sym, optional, TypeTree, named, list_of, non_null, type_layout, shared, type_symbol, punctuator}
 use Rattle.graphql_core.specs.{spelling_at, optional_non_null, type_of, AdmitsNull, IsPrintableType, type_brackets}
-use Rattle.graphql_core.proofs.round_trip.ReadingBack.{Back, as_word_back, anywhere_back, same_parts, means, word_back, punctuator_back, open_back, close_back}
-use Rattle.graphql_core.proofs.round_trip.ReadingBack.{nothing_back, both_back, first_back, second_back, node_back, four_back}
+use Rattle.graphql_core.proofs.round_trip.ParsingBack.{Back, as_word_back, anywhere_back, same_parts, means, word_back, punctuator_back, open_back, close_back}
+use Rattle.graphql_core.proofs.round_trip.ParsingBack.{nothing_back, both_back, first_back, second_back, node_back, four_back}
 use Rattle.graphql_core.specs.declared.tokenizer.token.Kind.TheVariants.{Punctuator}
 use Rattle.graphql_core.proofs.round_trip.LeavesBack.{name_word}
 

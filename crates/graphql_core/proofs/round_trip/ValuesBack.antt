@@ -6,10 +6,10 @@ use Rattle.graphql_core.specs.{Second, Stop, More, Node, IsName, StyleOptions, s
 use Rattle.graphql_core.specs.{trees_of, pair_of, pairs_by, as_list, as_object, value_layout, items_layout, members_layout, pair_layout, before_part, parts}
 use Rattle.graphql_core.specs.{after_parts, inside, boolean_name, has_block_form, in_block_form, quoted, shared, plain_symbol, spelling_at, plain_of, put_all}
 use Rattle.graphql_core.specs.{block_string_of, IsPrintableValue, ArePrintableItems, ArePrintableMembers, IsConstant, AreConstant, HoldConstants}
-use Rattle.graphql_core.specs.{value_brackets, items_brackets, members_brackets, IsLawful, AreLawful, HoldLawful}
+use Rattle.graphql_core.specs.{value_brackets, items_brackets, members_brackets, IsWellFormed, AreWellFormed, HoldWellFormed}
 use Rattle.graphql_core.proofs.layouts.{is_blank, block_word, block_means}
-use Rattle.graphql_core.proofs.round_trip.ReadingBack.{Any, as_word_back, anywhere_back, gap_back, word_back, punctuator_back, open_back, close_back, both_back}
-use Rattle.graphql_core.proofs.round_trip.ReadingBack.{first_back, second_back, node_back, stop_back, more_back, three_back, Back}
+use Rattle.graphql_core.proofs.round_trip.ParsingBack.{Any, as_word_back, anywhere_back, gap_back, word_back, punctuator_back, open_back, close_back, both_back}
+use Rattle.graphql_core.proofs.round_trip.ParsingBack.{first_back, second_back, node_back, stop_back, more_back, three_back, Back}
 use Rattle.std.specs.List.{list_all}
 use Rattle.graphql_core.specs.declared.tokenizer.token.Kind.TheVariants.{StringValue, BlockString}
 use Rattle.graphql_core.specs.declared.common.read.values.Constness.{Constness}
@@ -159,58 +159,58 @@ module _ (style : StyleOptions) where
       ∙ ap string (quoted_means text))))))))))
 
   mutual
-    pub value_back : (s : Constness) (margin : ℕ) (v : ValueTree) (d : ℕ) → IsPrintableValue v → IsLawful v → Suits s v → d + value_brackets v ≤ 50
+    pub value_back : (s : Constness) (margin : ℕ) (v : ValueTree) (d : ℕ) → IsPrintableValue v → IsWellFormed v → Suits s v → d + value_brackets v ≤ 50
         → Back shared (Sym (symbol_of s)) false d (value_layout style margin v) true d (λ x. tree_of s x ≡ v)
-    value_back Constant margin (variable n) d is lawful suits deep = absurd suits
-    value_back Value margin (variable n) d is lawful suits deep =
+    value_back Constant margin (variable n) d is well_formed suits deep = absurd suits
+    value_back Value margin (variable n) d is well_formed suits deep =
         node_back (λ x. refl) (first_back (both_back {Q = λ x. spelling_at x ≡ n} (punctuator_back (codes "$") (refl, refl) (λ p. refl))
         (word_back (name_word n is) (λ p. refl) (λ t e. e)) (λ o x ho hx. ap variable hx)))
-    value_back s margin (int i) d is lawful suits deep =
+    value_back s margin (int i) d is well_formed suits deep =
         plain_in s (int i) (node_back (λ x. refl)
-        (second_back (second_back (second_back (second_back (first_back (word_back (int_word i lawful) (int_takes i lawful)
+        (second_back (second_back (second_back (second_back (first_back (word_back (int_word i well_formed) (int_takes i well_formed)
         (λ t e. ap (λ r. plain_of (Node plain_symbol
         (Second (Second (Second (Second (First (Leaf (record { kind = t.kind; spelling = r; place = t.place }))))))))) e
-        ∙ ap int (int_decimal i lawful)))))))))
-    value_back s margin (float literal) d is lawful suits deep =
+        ∙ ap int (int_decimal i well_formed)))))))))
+    value_back s margin (float literal) d is well_formed suits deep =
         plain_in s (float literal) (node_back (λ x. refl)
-        (second_back (second_back (second_back (second_back (second_back (first_back (word_back (float_word literal lawful) (float_takes literal lawful)
+        (second_back (second_back (second_back (second_back (second_back (first_back (word_back (float_word literal well_formed) (float_takes literal well_formed)
         (λ t e. ap float e)))))))))
-    value_back s margin (string text) d is lawful suits deep = plain_in s (string text) (form_back margin text d (has_block_form text) refl)
-    value_back s margin (boolean b) d is lawful suits deep = plain_in s (boolean b) (boolean_back b d)
-    value_back s margin null d is lawful suits deep =
+    value_back s margin (string text) d is well_formed suits deep = plain_in s (string text) (form_back margin text d (has_block_form text) refl)
+    value_back s margin (boolean b) d is well_formed suits deep = plain_in s (boolean b) (boolean_back b d)
+    value_back s margin null d is well_formed suits deep =
         plain_in s null (node_back (λ x. refl) (second_back (second_back (first_back (word_back (name_word (codes "null") (refl, refl)) (λ p. refl)
         (λ t e. refl))))))
-    value_back s margin (enum n) d is lawful suits deep =
+    value_back s margin (enum n) d is well_formed suits deep =
         plain_in s (enum n) (node_back (λ x. refl)
         (second_back (second_back (second_back (first_back (node_back (λ x. refl) (word_back (name_word n is.0) (enum_takes n is) (λ t e. ap enum e))))))))
-    value_back s margin (list vs) d is lawful suits deep =
+    value_back s margin (list vs) d is well_formed suits deep =
         list_in s (list vs) (as_word_back (three_back
         (open_back (codes "[") (refl, refl) (omega arith) (λ p. refl))
-        (items_back s (inside style margin) false vs (d + 1) is lawful (suits_items s vs suits) (omega arith))
+        (items_back s (inside style margin) false vs (d + 1) is well_formed (suits_items s vs suits) (omega arith))
         (closer_back style margin (codes "]") (close_back (codes "]") (refl, refl) (λ p. refl)))
         (λ o x c ho hx hc. list_means s o x c ∙ ap list hx)))
-    value_back s margin (object ms) d is (ordered, lawful) suits deep =
+    value_back s margin (object ms) d is (ordered, well_formed) suits deep =
         object_in s (object ms) (as_word_back (three_back
         (open_back (codes "{") (refl, refl) (omega arith) (λ p. refl))
-        (members_back s (inside style margin) false ms (d + 1) is lawful (suits_members s ms suits) (omega arith))
+        (members_back s (inside style margin) false ms (d + 1) is well_formed (suits_members s ms suits) (omega arith))
         (closer_back style margin (codes "}") (close_back (codes "}") (refl, refl) (λ p. refl)))
         (λ o x c ho hx hc. object_means s o x c ∙ ap (λ ps. object (put_all ps no_members)) hx ∙ ap object (put_all_in_order ms ordered))))
 
-    items_back : (s : Constness) (margin : ℕ) (later : Bool) (vs : ValueItems) (d : ℕ) → ArePrintableItems vs → AreLawful vs → SuitItems s vs
+    items_back : (s : Constness) (margin : ℕ) (later : Bool) (vs : ValueItems) (d : ℕ) → ArePrintableItems vs → AreWellFormed vs → SuitItems s vs
         → d + items_brackets vs ≤ 50
         → Back shared (Many (Sym (symbol_of s))) later d (parts style margin later (items_layout style margin vs)) true d (λ x. trees_of s x ≡ vs)
-    items_back s margin later no_items d is lawful suits deep = to_word later (stop_back (no_items_means s))
+    items_back s margin later no_items d is well_formed suits deep = to_word later (stop_back (no_items_means s))
     items_back s margin later (item v vs) d (is, are) (law, laws) suits deep =
         let (here, others) = suits_item s v vs suits in
         before_back style margin later (more_back (value_back s margin v d is law here (omega arith))
         (items_back s margin true vs d are laws others (omega arith))
         (λ x y hx hy. items_means s x y ∙ ap₂ item hx hy))
 
-    members_back : (s : Constness) (margin : ℕ) (later : Bool) (ms : ValueMembers) (d : ℕ) → ArePrintableMembers ms → HoldLawful ms → SuitMembers s ms
+    members_back : (s : Constness) (margin : ℕ) (later : Bool) (ms : ValueMembers) (d : ℕ) → ArePrintableMembers ms → HoldWellFormed ms → SuitMembers s ms
         → d + members_brackets ms ≤ 50
         → Back shared (Many (Sym (pair_symbol_of s))) later d (parts style margin later (members_layout style margin ms)) true d
         (λ x. pairs_by s x ≡ pairs_in ms)
-    members_back s margin later no_members d is lawful suits deep = to_word later (stop_back (no_pairs_means s))
+    members_back s margin later no_members d is well_formed suits deep = to_word later (stop_back (no_pairs_means s))
     members_back s margin later (member n v ms) d (is, prints, are) (law, laws) suits deep =
         let (here, others) = suits_member s n v ms suits in
         before_back style margin later (more_back (pair_back s style margin n v d is (value_back s margin v d prints law here (omega arith)))

@@ -25,7 +25,7 @@ has_more [] (b ∷ bs) w = omega arith
 has_more (q ∷ qs) stop w = piece_has_more q.meaning (λ v. items_of v qs stop) w q.bytes (λ v. has_more qs stop v)
 
 pub more_items : (text : List ℕ) (is : List Item) → HasItems text is → HasMore is
-more_items text is (pieces, stop, cut, e) = subst HasMore (sym e) (has_more pieces stop start)
+more_items text is (pieces, stop, tokenized, e) = subst HasMore (sym e) (has_more pieces stop start)
 
 -- where the next item of a list begins
 first_place : (c : Content) (w : Where) (is : List Item) → place_next (split (item_at c w ∷ is)) ≡ place_of w.position

@@ -6,8 +6,8 @@ use Rattle.std.proofs.lemmas.Str.{encodes-chars, IsUtf8-take, IsCharBoundary-sta
 use Rattle.std.proofs.lemmas.Bool.Decides.{nat_tests}
 use Rattle.graphql_core.specs.declared.tokenizer.piece.Move.TheVariants.{Stay, Down, Over}
 use Rattle.graphql_core.specs.{moved, past, past_character, past_characters, LexicalError, items_of, Where, Item, item_at, TokenContent, HasItems, start}
-use Rattle.graphql_core.specs.{past_ignored, past_token, is_too_deep, token_then, piece_then, NextItem, next_place, too_deep, Meaning, Ignored, TokenOf, Stands}
-use Rattle.graphql_core.specs.{Piece, IsCutInto}
+use Rattle.graphql_core.specs.{past_ignored, past_token, is_too_deep, token_then, piece_then, NextItem, next_place, too_deep, Meaning, Ignored, TokenOf, IsLexicalElement}
+use Rattle.graphql_core.specs.{Piece, IsTokenizedInto}
 use Rattle.graphql_core.specs.declared.tokenizer.token.Token.{Token}
 use Rattle.graphql_core.specs.declared.tokenizer.piece.Move.{Move}
 use Rattle.graphql_core.specs.declared.tokenizer.token.Bad.{Bad}
@@ -117,13 +117,13 @@ some_characters : (cs bytes : List ℕ) (p : Pos) → chars bytes ≡ cs → IsU
 some_characters [] bytes p is utf8 some = let none = rw is at (encodes-chars bytes utf8) in absurd (omega (arith, some, ap length none))
 some_characters (c ∷ cs) bytes p is utf8 some = passed_some c cs p
 
-passed_token : (k : Kind) (t : Nesting) (bytes rest : List ℕ) (p : Pos) → Stands bytes (TokenOf k t) rest → IsUtf8 (bytes ++ rest) → Before p (past bytes p)
+passed_token : (k : Kind) (t : Nesting) (bytes rest : List ℕ) (p : Pos) → IsLexicalElement bytes (TokenOf k t) rest → IsUtf8 (bytes ++ rest) → Before p (past bytes p)
 passed_token k t bytes rest p st utf8 =
     let h = part (TokenOf k t) bytes rest st in
     let own = subst IsUtf8 (take_at bytes rest (length bytes) refl) (IsUtf8-take (bytes ++ rest) (length bytes) utf8 (h.2 utf8)) in
     some_characters (chars bytes) bytes p refl own h.0
 
-piece_from : (m : Meaning) (bytes rest whole : List ℕ) (w : Where) (more : Where → List Item) → Stands bytes m rest → IsAt whole w (bytes ++ rest)
+piece_from : (m : Meaning) (bytes rest whole : List ℕ) (w : Where) (more : Where → List Item) → IsLexicalElement bytes m rest → IsAt whole w (bytes ++ rest)
     → ((v : Where) → IsAt whole v rest → From whole v (more v)) → From whole w (piece_then m more w bytes)
 piece_from (Ignored m) bytes rest whole w more st at f =
     let v : Where = past_ignored m (length bytes) w in
@@ -146,7 +146,7 @@ piece_from (TokenOf k t) bytes rest whole w more st at f = by (is_too_deep t w)
           (seam, all_after w.position v.position (more v) b h.0, h.1),
         )
 
-items_from : (ps : List Piece) (whole text stop : List ℕ) (w : Where) → IsCutInto text ps stop → IsAt whole w text → From whole w (items_of w ps stop)
+items_from : (ps : List Piece) (whole text stop : List ℕ) (w : Where) → IsTokenizedInto text ps stop → IsAt whole w text → From whole w (items_of w ps stop)
 unfolding items_of
 items_from [] whole text [] w (e, none) at = ((stays w.position, tt), ((at.0, subst IsUtf8 (sym at.1) at.2), tt, tt))
 items_from [] whole text (b ∷ bs) w (e, none) at = ((stays w.position, tt), ((at.0, subst IsUtf8 (sym at.1) at.2), tt, tt))
@@ -155,8 +155,8 @@ items_from (q ∷ qs) whole text stop w (rest, e, st, more) at =
 
 -- the positions of the items of an input increase
 pub items_rise : (text : List ℕ) (items : List Item) → IsUtf8 text → HasItems text items → Rise text items
-items_rise text items utf8 (pieces, stop, cut, e) =
-    subst (Rise text) (sym e) (items_from pieces text text stop start cut (omega arith, refl, utf8)).1
+items_rise text items utf8 (pieces, stop, tokenized, e) =
+    subst (Rise text) (sym e) (items_from pieces text text stop start tokenized (omega arith, refl, utf8)).1
 
 -- ---- at most one item at a position
 

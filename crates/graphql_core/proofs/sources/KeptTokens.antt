@@ -3,11 +3,11 @@ use Rattle.std.proofs.Common.{◌≡◌, ℕ, ◌+◌, ◌<◌, ◌≤◌, Bool,
 use Rattle.std.proofs.Common.{length-append, append_assoc}
 use Rattle.std.proofs.lemmas.List.{take_at, take-append-le, take-append-drop}
 use Rattle.graphql_core.specs.{ignored_tab, ignored_line_feed, ignored_carriage_return, ignored_comma, ignored_byte_order_mark, comment_feed}
-use Rattle.graphql_core.specs.{comment_return_feed, comment_return, name_token, punctuator_token, ignored_space, Meaning, Ignored, TokenOf, Piece, IsCutInto}
-use Rattle.graphql_core.specs.{Stands, spread_token, integer_token, float_token, string_token, block_string_token, LexicalError, items_of, Where, Item, item_at}
+use Rattle.graphql_core.specs.{comment_return_feed, comment_return, name_token, punctuator_token, ignored_space, Meaning, Ignored, TokenOf, Piece, IsTokenizedInto}
+use Rattle.graphql_core.specs.{IsLexicalElement, spread_token, integer_token, float_token, string_token, block_string_token, LexicalError, items_of, Where, Item, item_at}
 use Rattle.graphql_core.specs.{TokenContent, past_ignored, past_token, is_too_deep, token_then, piece_then, token_of, split, Token, too_deep, next_place}
 use Rattle.graphql_core.specs.{kind_number}
-use Rattle.graphql_core.proofs.lexical.{cut_of}
+use Rattle.graphql_core.proofs.lexical.{tokenization_of}
 use Rattle.graphql_core.specs.declared.tokenizer.piece.Move.{Move}
 use Rattle.graphql_core.specs.declared.tokenizer.token.Kind.{Kind}
 use Rattle.graphql_core.specs.declared.tokenizer.token.Kind.TheVariants.{Punctuator}
@@ -17,40 +17,40 @@ use Rattle.graphql_core.proofs.sources.TokenPlaces.{part}
 -- ---- what can follow a lexical element
 
 -- a lexical element stays the same if the first byte after it does
-pub stands_before_same : {s : List ℕ} {m : Meaning} {b : ℕ} {bs : List ℕ} → Stands s m (b ∷ bs) → (cs : List ℕ) → Stands s m (b ∷ cs)
-stands_before_same ignored_tab cs = ignored_tab
-stands_before_same ignored_line_feed cs = ignored_line_feed
-stands_before_same ignored_carriage_return cs = ignored_carriage_return
-stands_before_same ignored_space cs = ignored_space
-stands_before_same ignored_comma cs = ignored_comma
-stands_before_same ignored_byte_order_mark cs = ignored_byte_order_mark
-stands_before_same (comment_feed line all) cs = comment_feed line all
-stands_before_same (comment_return_feed line all) cs = comment_return_feed line all
-stands_before_same (comment_return line all stop) cs = comment_return line all stop
-stands_before_same (name_token first more ends) cs = name_token first more ends
-stands_before_same (punctuator_token h) cs = punctuator_token h
-stands_before_same spread_token cs = spread_token
-stands_before_same (integer_token h ends) cs = integer_token h ends
-stands_before_same (float_token h ends) cs = float_token h ends
-stands_before_same (string_token body valid some) cs = string_token body valid some
-stands_before_same (block_string_token closes) cs = block_string_token closes
+pub element_before_same : {s : List ℕ} {m : Meaning} {b : ℕ} {bs : List ℕ} → IsLexicalElement s m (b ∷ bs) → (cs : List ℕ) → IsLexicalElement s m (b ∷ cs)
+element_before_same ignored_tab cs = ignored_tab
+element_before_same ignored_line_feed cs = ignored_line_feed
+element_before_same ignored_carriage_return cs = ignored_carriage_return
+element_before_same ignored_space cs = ignored_space
+element_before_same ignored_comma cs = ignored_comma
+element_before_same ignored_byte_order_mark cs = ignored_byte_order_mark
+element_before_same (comment_feed line all) cs = comment_feed line all
+element_before_same (comment_return_feed line all) cs = comment_return_feed line all
+element_before_same (comment_return line all stop) cs = comment_return line all stop
+element_before_same (name_token first more ends) cs = name_token first more ends
+element_before_same (punctuator_token h) cs = punctuator_token h
+element_before_same spread_token cs = spread_token
+element_before_same (integer_token h ends) cs = integer_token h ends
+element_before_same (float_token h ends) cs = float_token h ends
+element_before_same (string_token body valid some) cs = string_token body valid some
+element_before_same (block_string_token closes) cs = block_string_token closes
 
 -- if some bytes and then an input can follow a lexical element, those bytes and any other input can
-stands_on : {s : List ℕ} {m : Meaning} (a b c : List ℕ) → 0 < length a → Stands s m (a ++ b) → Stands s m (a ++ c)
-stands_on [] b c some st = absurd (omega (arith, some))
-stands_on (x ∷ a) b c some st = stands_before_same st (a ++ c)
+element_on : {s : List ℕ} {m : Meaning} (a b c : List ℕ) → 0 < length a → IsLexicalElement s m (a ++ b) → IsLexicalElement s m (a ++ c)
+element_on [] b c some st = absurd (omega (arith, some))
+element_on (x ∷ a) b c some st = element_before_same st (a ++ c)
 
 -- any input can follow a punctuator
-punctuator_stands : {s : List ℕ} {k : Kind} {n : Nesting} {rest : List ℕ} → Stands s (TokenOf k n) rest → kind_number k ≡ kind_number Punctuator
+punctuator_element : {s : List ℕ} {k : Kind} {n : Nesting} {rest : List ℕ} → IsLexicalElement s (TokenOf k n) rest → kind_number k ≡ kind_number Punctuator
     → (more : List ℕ)
-    → Stands s (TokenOf k n) more
-punctuator_stands (name_token first continues ends) e more = absurd (omega (arith, e))
-punctuator_stands (punctuator_token m) e more = punctuator_token m
-punctuator_stands spread_token e more = spread_token
-punctuator_stands (integer_token is ends) e more = absurd (omega (arith, e))
-punctuator_stands (float_token is ends) e more = absurd (omega (arith, e))
-punctuator_stands (string_token body is some) e more = absurd (omega (arith, e))
-punctuator_stands (block_string_token closes) e more = absurd (omega (arith, e))
+    → IsLexicalElement s (TokenOf k n) more
+punctuator_element (name_token first continues ends) e more = absurd (omega (arith, e))
+punctuator_element (punctuator_token m) e more = punctuator_token m
+punctuator_element spread_token e more = spread_token
+punctuator_element (integer_token is ends) e more = absurd (omega (arith, e))
+punctuator_element (float_token is ends) e more = absurd (omega (arith, e))
+punctuator_element (string_token body is some) e more = absurd (omega (arith, e))
+punctuator_element (block_string_token closes) e more = absurd (omega (arith, e))
 
 -- ---- tokens of which the last is a punctuator
 
@@ -74,7 +74,7 @@ pub record TokensKept (w : Where) (text : List ℕ) (is : List Item) (front : Li
   pub parts : text ≡ a ++ b
   pub some : 0 < length a
   pub within : w.offset + length a ≤ (next_place (drop (length front) is)).offset
-  pub again : (c : List ℕ) → (ps : List Piece) × (stop : List ℕ) × IsCutInto (a ++ c) ps stop × (others : List Token)
+  pub again : (c : List ℕ) → (ps : List Piece) × (stop : List ℕ) × IsTokenizedInto (a ++ c) ps stop × (others : List Token)
       × ((split (items_of w ps stop)).tokens ≡ front ++ others)
 
 token_there : (b : Bool) (k : Kind) (bytes : List ℕ) (w : Where) (more : List Item)
@@ -101,7 +101,7 @@ module _ (qs : List Piece) (stop rest : List ℕ) (others : List Token) where
       → TokensKept v rest (items_of v qs stop) front
 
   -- what is kept after a lexical element is also kept with the element, and with its token if it has one
-  with_piece : (m : Meaning) (bytes text : List ℕ) (w v : Where) (is js : List Item) (all front : List Token) → text ≡ bytes ++ rest → Stands bytes m rest
+  with_piece : (m : Meaning) (bytes text : List ℕ) (w v : Where) (is js : List Item) (all front : List Token) → text ≡ bytes ++ rest → IsLexicalElement bytes m rest
       → v.offset ≡ w.offset + length bytes → drop (length all) is ≡ drop (length front) js
       → ((ps : List Piece) (end : List ℕ) (us : List Token) → (split (items_of v ps end)).tokens ≡ front ++ us
       → (split (items_of w (record { bytes = bytes; meaning = m } ∷ ps) end)).tokens ≡ all ++ us)
@@ -113,23 +113,23 @@ module _ (qs : List Piece) (stop rest : List ℕ) (others : List Token) where
     some = omega (arith, k.some, length-append bytes k.a);
     within = omega (arith, k.within, moves, ap (λ (l : List Item). (next_place l).offset) same, length-append bytes k.a);
     again = λ c.
-        let (ps, end, cut, us, tokens) = k.again c in (
+        let (ps, end, tokenized, us, tokens) = k.again c in (
           record { bytes = bytes; meaning = m } ∷ ps,
           end,
-          (k.a ++ c, append_assoc bytes k.a c, stands_on k.a k.b c k.some (subst (Stands bytes m) k.parts st), cut),
+          (k.a ++ c, append_assoc bytes k.a c, element_on k.a k.b c k.some (subst (IsLexicalElement bytes m) k.parts st), tokenized),
           us,
           on ps end us tokens,
         );
   }
 
-  ignored_kept : (m : Move) (bytes text : List ℕ) (w : Where) (front : List Token) → text ≡ bytes ++ rest → Stands bytes (Ignored m) rest
+  ignored_kept : (m : Move) (bytes text : List ℕ) (w : Where) (front : List Token) → text ≡ bytes ++ rest → IsLexicalElement bytes (Ignored m) rest
       → TokensKept (past_ignored m (length bytes) w) rest (items_of (past_ignored m (length bytes) w) qs stop) front
       → TokensKept w text (items_of (past_ignored m (length bytes) w) qs stop) front
   unfolding items_of
   ignored_kept m bytes text w front e st =
       with_piece (Ignored m) bytes text w (past_ignored m (length bytes) w) _ _ front front e st refl refl (λ ps end us tokens. tokens)
 
-  module _ (kind : Kind) (t : Nesting) (bytes text : List ℕ) (w : Where) (e : text ≡ bytes ++ rest) (st : Stands bytes (TokenOf kind t) rest)
+  module _ (kind : Kind) (t : Nesting) (bytes text : List ℕ) (w : Where) (e : text ≡ bytes ++ rest) (st : IsLexicalElement bytes (TokenOf kind t) rest)
       (fits : is_too_deep t w ≡ false) where
     -- the token is the last one
     last_kept : (f : Token) → token_of w.position kind bytes ≡ f → f.kind ≡ kind_number Punctuator
@@ -142,10 +142,10 @@ module _ (qs : List Piece) (stop rest : List ℕ) (others : List Token) where
       some = (part (TokenOf kind t) bytes rest st).0;
       within = goes_on qs stop (past_token t bytes w);
       again = λ c.
-          let (ps, end, cut) = cut_of c in (
+          let (ps, end, tokenized) = tokenization_of c in (
             record { bytes = bytes; meaning = TokenOf kind t } ∷ ps,
             end,
-            (c, refl, punctuator_stands st (ap (λ (u : Token). u.kind) first ∙ is) c, cut),
+            (c, refl, punctuator_element st (ap (λ (u : Token). u.kind) first ∙ is) c, tokenized),
             (split (items_of (past_token t bytes w) ps end)).tokens,
             rw fits (λ i. first i ∷ (split (items_of (past_token t bytes w) ps end)).tokens),
           );
@@ -161,7 +161,7 @@ module _ (qs : List Piece) (stop rest : List ℕ) (others : List Token) where
         (λ ps end us tokens. rw fits (λ i. first i ∷ tokens i))
 
   word_kept : (b : Bool) (kind : Kind) (t : Nesting) (bytes text : List ℕ) (w : Where) (front : List Token) → is_too_deep t w ≡ b
-      → text ≡ bytes ++ rest → Stands bytes (TokenOf kind t) rest
+      → text ≡ bytes ++ rest → IsLexicalElement bytes (TokenOf kind t) rest
       → (split (token_then b (item_at (LexicalError too_deep) w) (item_at (TokenContent kind bytes) w) (items_of (past_token t bytes w) qs stop))).tokens
       ≡ front ++ others → EndsInMark front → KeptLater → TokensKept w text
       (token_then b (item_at (LexicalError too_deep) w) (item_at (TokenContent kind bytes) w) (items_of (past_token t bytes w) qs stop)) front
@@ -174,20 +174,20 @@ module _ (qs : List Piece) (stop rest : List ℕ) (others : List Token) where
       let first : token_of w.position kind bytes ≡ u = cc in
       first_kept kind t bytes text w e st deep u (v ∷ us) first (f (past_token t bytes w) (v ∷ us) (ap (drop 1) is) ends)
 
-  piece_kept : (m : Meaning) (bytes text : List ℕ) (w : Where) (front : List Token) → text ≡ bytes ++ rest → Stands bytes m rest
+  piece_kept : (m : Meaning) (bytes text : List ℕ) (w : Where) (front : List Token) → text ≡ bytes ++ rest → IsLexicalElement bytes m rest
       → (split (piece_then m (λ v. items_of v qs stop) w bytes)).tokens ≡ front ++ others → EndsInMark front → KeptLater
       → TokensKept w text (piece_then m (λ v. items_of v qs stop) w bytes) front
   piece_kept (Ignored m) bytes text w front e st is ends f = ignored_kept m bytes text w front e st (f (past_ignored m (length bytes) w) front is ends)
   piece_kept (TokenOf k t) bytes text w front e st is ends f = word_kept (is_too_deep t w) k t bytes text w front refl e st is ends f
 
-pub tokens_kept : (ps : List Piece) (text stop : List ℕ) (w : Where) (front others : List Token) → IsCutInto text ps stop
+pub tokens_kept : (ps : List Piece) (text stop : List ℕ) (w : Where) (front others : List Token) → IsTokenizedInto text ps stop
     → (split (items_of w ps stop)).tokens ≡ front ++ others → EndsInMark front → TokensKept w text (items_of w ps stop) front
 unfolding items_of
-tokens_kept [] text stop w [] others cut is ends = absurd ends
-tokens_kept [] text [] w (t ∷ front) others cut is ends = absurd cc
-tokens_kept [] text (b ∷ bs) w (t ∷ front) others cut is ends = absurd cc
-tokens_kept (q ∷ qs) text stop w front others (rest, e, st, cut) is ends =
-    piece_kept qs stop rest others q.meaning q.bytes text w front e st is ends (λ v us h k. tokens_kept qs rest stop v us others cut h k)
+tokens_kept [] text stop w [] others tokenized is ends = absurd ends
+tokens_kept [] text [] w (t ∷ front) others tokenized is ends = absurd cc
+tokens_kept [] text (b ∷ bs) w (t ∷ front) others tokenized is ends = absurd cc
+tokens_kept (q ∷ qs) text stop w front others (rest, e, st, tokenized) is ends =
+    piece_kept qs stop rest others q.meaning q.bytes text w front e st is ends (λ v us h k. tokens_kept qs rest stop v us others tokenized h k)
 
 -- ---- the front of an input
 

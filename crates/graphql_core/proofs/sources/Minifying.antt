@@ -1,8 +1,8 @@
 -- Spaced tokens are tokenized into exactly these tokens.
 use Rattle.std.proofs.Common.{◌≡◌, ℕ, Bool, true, false, not, ◌&&◌, ◌||◌, List, [], ◌∷◌, ◌++◌, length, map, refl, sym, ap, ◌∙◌, subst, arith}
 use Rattle.std.proofs.lemmas.Bool.Decides.{nat_tests}
-use Rattle.graphql_core.specs.{name_token, punctuator_token, ignored_space, is_punctuator_byte, is_delimiter, Meaning, Ignored, TokenOf, Stands, spread_token}
-use Rattle.graphql_core.specs.{integer_token, float_token, string_token, block_string_token, Piece, IsCutInto, LexicalError, openers_after, closers_after}
+use Rattle.graphql_core.specs.{name_token, punctuator_token, ignored_space, is_punctuator_byte, is_delimiter, Meaning, Ignored, TokenOf, IsLexicalElement, spread_token}
+use Rattle.graphql_core.specs.{integer_token, float_token, string_token, block_string_token, Piece, IsTokenizedInto, LexicalError, openers_after, closers_after}
 use Rattle.graphql_core.specs.{Where, Item, item_at, TokenContent, HasItems, start, past_ignored, past_token, is_too_deep, token_then, piece_then, items_of}
 use Rattle.graphql_core.specs.{Token, Place, nowhere, kind_number, too_deep, split, token_of, IsEnd, is_past, AreLexemes, is_punctuator, is_number}
 use Rattle.graphql_core.specs.{is_spaced, space_if, spaced_after, spaced, unplaced, IsMinified, HasTokens}
@@ -18,15 +18,15 @@ use Rattle.graphql_core.proofs.lexical.FrontIsPiece.{begins_none_at_end}
 -- ---- what can follow a token
 
 -- if a token is found before one input, it is found before any other input that can follow it
-pub stands_before : {s : List ℕ} {k : Kind} {n : Nesting} {rest : List ℕ} → Stands s (TokenOf k n) rest → (more : List ℕ) → MayFollow k more
-    → Stands s (TokenOf k n) more
-stands_before (name_token first continues ends) more f = name_token first continues f
-stands_before (punctuator_token m) more f = punctuator_token m
-stands_before spread_token more f = spread_token
-stands_before (integer_token is ends) more f = integer_token is f
-stands_before (float_token is ends) more f = float_token is f
-stands_before (string_token body is some) more f = string_token body is (λ e. f)
-stands_before (block_string_token closes) more f = block_string_token closes
+pub token_before : {s : List ℕ} {k : Kind} {n : Nesting} {rest : List ℕ} → IsLexicalElement s (TokenOf k n) rest → (more : List ℕ) → MayFollow k more
+    → IsLexicalElement s (TokenOf k n) more
+token_before (name_token first continues ends) more f = name_token first continues f
+token_before (punctuator_token m) more f = punctuator_token m
+token_before spread_token more f = spread_token
+token_before (integer_token is ends) more f = integer_token is f
+token_before (float_token is ends) more f = float_token is f
+token_before (string_token body is some) more f = string_token body is (λ e. f)
+token_before (block_string_token closes) more f = block_string_token closes
 
 pub end_follows : (k : Kind) → MayFollow k []
 end_follows Punctuator = tt
@@ -76,7 +76,7 @@ spread_follows FloatValue more = space_follows FloatValue (46 ∷ more)
 spread_follows StringValue more = λ e. omega arith
 spread_follows BlockString more = tt
 
-pub token_follows : (k : Kind) {j : Kind} {n : Nesting} {s rest : List ℕ} → Stands s (TokenOf j n) rest → (p : Place) (more : List ℕ)
+pub token_follows : (k : Kind) {j : Kind} {n : Nesting} {s rest : List ℕ} → IsLexicalElement s (TokenOf j n) rest → (p : Place) (more : List ℕ)
     → MayFollow k (space_if (is_spaced (kind_number k) (record { kind = kind_number j; spelling = s; place = p })) ++ (s ++ more))
 token_follows k (name_token first continues ends) p more = word_follows k _
 token_follows k (punctuator_token {b} m) p more = spaced_follows k _ (b ∷ more) (punctuator_follows k b more m)
@@ -94,21 +94,21 @@ past_is Opens w = refl
 past_is Closes w = refl
 
 lexeme_kept : (b : Bool) (k : Kind) (n : Nesting) (bytes rest : List ℕ) (w : Where) (more : List Item) → is_past n w.openers w.closers ≡ b
-    → Stands bytes (TokenOf k n) rest
+    → IsLexicalElement bytes (TokenOf k n) rest
     → AreLexemes (openers_after n w.openers) (closers_after n w.closers) (split more).tokens
     → AreLexemes w.openers w.closers (split (token_then b (item_at (LexicalError too_deep) w) (item_at (TokenContent k bytes) w) more)).tokens
 lexeme_kept true k n bytes rest w more e st h = tt
 lexeme_kept false k n bytes rest w more e st h = (k, n, rest, refl, st, e, h)
 
 -- the tokens of an input are tokens of the lexical grammar
-piece_lexeme : (m : Meaning) (bytes rest : List ℕ) (w : Where) (more : Where → List Item) → Stands bytes m rest
+piece_lexeme : (m : Meaning) (bytes rest : List ℕ) (w : Where) (more : Where → List Item) → IsLexicalElement bytes m rest
     → ((v : Where) → AreLexemes v.openers v.closers (split (more v)).tokens)
     → AreLexemes w.openers w.closers (split (piece_then m more w bytes)).tokens
 piece_lexeme (Ignored m) bytes rest w more st f = f (past_ignored m (length bytes) w)
 piece_lexeme (TokenOf k n) bytes rest w more st f =
     lexeme_kept (is_too_deep n w) k n bytes rest w (more (past_token n bytes w)) (sym (past_is n w)) st (f (past_token n bytes w))
 
-pub are_lexemes : (ps : List Piece) (text stop : List ℕ) → IsCutInto text ps stop → (w : Where)
+pub are_lexemes : (ps : List Piece) (text stop : List ℕ) → IsTokenizedInto text ps stop → (w : Where)
     → AreLexemes w.openers w.closers (split (items_of w ps stop)).tokens
 unfolding items_of
 are_lexemes [] text [] h w = tt
@@ -118,25 +118,25 @@ are_lexemes (p ∷ ps) text stop (rest, e, st, h) w = piece_lexeme p.meaning p.b
 -- ---- spaced tokens
 
 -- from this place on, the input has exactly these tokens, at any positions, and then the end
-abbrev pub IsSpacedCut : Where → List ℕ → List Token → Type 0
-IsSpacedCut w text ts =
-    (pieces : List Piece) × IsCutInto text pieces [] × (map unplaced (split (items_of w pieces [])).tokens ≡ map unplaced ts)
+abbrev pub IsTokenizedSpaced : Where → List ℕ → List Token → Type 0
+IsTokenizedSpaced w text ts =
+    (pieces : List Piece) × IsTokenizedInto text pieces [] × (map unplaced (split (items_of w pieces [])).tokens ≡ map unplaced ts)
     × IsEnd (split (items_of w pieces [])).last
 
-cut_spaced : (b : Bool) (o c : ℕ) (text : List ℕ) (ts : List Token) → ((v : Where) → v.openers ≡ o → v.closers ≡ c → IsSpacedCut v text ts)
-    → (w : Where) → w.openers ≡ o → w.closers ≡ c → IsSpacedCut w (space_if b ++ text) ts
+tokenized_spaced : (b : Bool) (o c : ℕ) (text : List ℕ) (ts : List Token) → ((v : Where) → v.openers ≡ o → v.closers ≡ c → IsTokenizedSpaced v text ts)
+    → (w : Where) → w.openers ≡ o → w.closers ≡ c → IsTokenizedSpaced w (space_if b ++ text) ts
 unfolding items_of
-cut_spaced false o c text ts f w p q = f w p q
-cut_spaced true o c text ts f w p q =
-    let (pieces, cut, alike, end) = f (past_ignored (Over 1) 1 w) p q in
-    (record { bytes = 32 ∷ []; meaning = Ignored (Over 1) } ∷ pieces, (text, refl, ignored_space, cut), alike, end)
+tokenized_spaced false o c text ts f w p q = f w p q
+tokenized_spaced true o c text ts f w p q =
+    let (pieces, tokenized, alike, end) = f (past_ignored (Over 1) 1 w) p q in
+    (record { bytes = 32 ∷ []; meaning = Ignored (Over 1) } ∷ pieces, (text, refl, ignored_space, tokenized), alike, end)
 
-cut_token : (k : Kind) (n : Nesting) (s text : List ℕ) (t : Token) (ts : List Token) (w : Where) → is_too_deep n w ≡ false → Stands s (TokenOf k n) text
-    → t.kind ≡ kind_number k → t.spelling ≡ s → IsSpacedCut (past_token n s w) text ts → IsSpacedCut w (s ++ text) (t ∷ ts)
+tokenized_token : (k : Kind) (n : Nesting) (s text : List ℕ) (t : Token) (ts : List Token) (w : Where) → is_too_deep n w ≡ false → IsLexicalElement s (TokenOf k n) text
+    → t.kind ≡ kind_number k → t.spelling ≡ s → IsTokenizedSpaced (past_token n s w) text ts → IsTokenizedSpaced w (s ++ text) (t ∷ ts)
 unfolding items_of
-cut_token k n s text t ts w fits st kind spelling (pieces, cut, alike, end) =
+tokenized_token k n s text t ts w fits st kind spelling (pieces, tokenized, alike, end) =
     let one : unplaced (token_of w.position k s) ≡ unplaced t = λ i. record { kind = sym kind i; spelling = sym spelling i; place = nowhere } in
-    (record { bytes = s; meaning = TokenOf k n } ∷ pieces, (text, refl, st, cut), rw fits (λ i. one i ∷ alike i), rw fits end)
+    (record { bytes = s; meaning = TokenOf k n } ∷ pieces, (text, refl, st, tokenized), rw fits (λ i. one i ∷ alike i), rw fits end)
 
 -- the rest of the output after a token can follow that token
 spaced_may_follow : (k : Kind) (o c : ℕ) (ts : List Token) → AreLexemes o c ts → MayFollow k (spaced_after (kind_number k) ts)
@@ -148,14 +148,14 @@ spaced_may_follow k o c (t ∷ ts) (j, n, rest, kind, st, fits, l) =
     (token_follows k st t.place (spaced_after t.kind ts))
 
 -- Any list of tokens of the lexical grammar, spaced, is tokenized into exactly these tokens.
-pub tokens_cut : (kind o c : ℕ) (ts : List Token) → AreLexemes o c ts → (w : Where) → w.openers ≡ o → w.closers ≡ c → IsSpacedCut w (spaced_after kind ts) ts
+pub tokens_tokenized : (kind o c : ℕ) (ts : List Token) → AreLexemes o c ts → (w : Where) → w.openers ≡ o → w.closers ≡ c → IsTokenizedSpaced w (spaced_after kind ts) ts
 unfolding items_of
-tokens_cut kind o c [] l w p q = ([], (refl, begins_none_at_end), refl, tt)
-tokens_cut kind o c (t ∷ ts) (k, n, rest, is, st, fits, l) w p q =
+tokens_tokenized kind o c [] l w p q = ([], (refl, begins_none_at_end), refl, tt)
+tokens_tokenized kind o c (t ∷ ts) (k, n, rest, is, st, fits, l) w p q =
     let follows = subst (λ (j : ℕ). MayFollow k (spaced_after j ts)) (sym is) (spaced_may_follow k _ _ ts l) in
-    cut_spaced (is_spaced kind t) o c (t.spelling ++ spaced_after t.kind ts) (t ∷ ts) (λ v p q.
-    cut_token k n t.spelling (spaced_after t.kind ts) t ts v (past_is n v ∙ rw (p, q) fits) (stands_before st _ follows) is refl
-    (tokens_cut t.kind _ _ ts l (past_token n t.spelling v) (ap (openers_after n) p) (ap (closers_after n) q))) w p q
+    tokenized_spaced (is_spaced kind t) o c (t.spelling ++ spaced_after t.kind ts) (t ∷ ts) (λ v p q.
+    tokenized_token k n t.spelling (spaced_after t.kind ts) t ts v (past_is n v ∙ rw (p, q) fits) (token_before st _ follows) is refl
+    (tokens_tokenized t.kind _ _ ts l (past_token n t.spelling v) (ap (openers_after n) p) (ap (closers_after n) q))) w p q
 
 -- before the first token there is no space, as after a punctuator
 pub spaced_first : (ts : List Token) → spaced_after 0 ts ≡ spaced ts
@@ -166,7 +166,7 @@ spaced_first (t ∷ ts) = refl
 
 pub has_spaced_tokens : (ts : List Token) → AreLexemes 0 0 ts → HasTokens (spaced ts) ts
 has_spaced_tokens ts l =
-    let (pieces, is, alike, end) = subst (λ (text : List ℕ). IsSpacedCut start text ts) (spaced_first ts) (tokens_cut 0 0 0 ts l start refl refl) in
+    let (pieces, is, alike, end) = subst (λ (text : List ℕ). IsTokenizedSpaced start text ts) (spaced_first ts) (tokens_tokenized 0 0 0 ts l start refl refl) in
     (items_of start pieces [], (pieces, [], is, refl), alike, end)
 
 -- the tokens of an input, spaced, are tokenized into the same tokens

@@ -5,33 +5,33 @@ use Rattle.std.proofs.lemmas.List.{take_at, drop_at, drop_all, map-append, lengt
 use Rattle.std.proofs.lemmas.List.Elements.{All-head, All-same, All-drop, All-get_or, All-map, All-weaker}
 use Rattle.std.proofs.Math.Seq.{drop-cons}
 use Rattle.std.proofs.Math.Numerals.{suc-eq-add-one}
-use Rattle.graphql_core.specs.declared.tokenizer.token.Token.{Token as Cut}
+use Rattle.graphql_core.specs.declared.tokenizer.token.Token.{Token as LexedToken}
 use Rattle.graphql_core.specs.declared.tokenizer.token.Bad.{Bad}
 use Rattle.std.specs.Str.{IsCharBoundary, IsUtf8}
 use Rattle.graphql_core.specs.declared.position.Pos.{Pos}
 use Rattle.graphql_core.specs.declared.tokenizer.token.Kind.{Kind}
 use Rattle.graphql_core.specs.{Where, Item, item_at, TokenContent, EndOfInput, LexicalError, bad_text, HasItems, NextItem, next_place, Token, kind_number}
-use Rattle.graphql_core.specs.{Items, Last, IsLexeme, split, only_last, then_items, token_of, after, IsNextFault, max_length, Refusal, first_byte, Marks}
+use Rattle.graphql_core.specs.{Items, Last, IsLexeme, split, only_last, then_items, token_of, after, IsNextFault, max_length, ParseFailure, first_byte, Marks}
 use Rattle.graphql_core.specs.{span_token, then_left, span_items, last_at, IsLeft, IsLast, TokenOf, peek}
 use Rattle.graphql_core.specs.declared.helpers.span.Span.{Span}
-use Rattle.graphql_core.proofs.sources.TokenPlaces.{IsToken, StandsIn, part, tokens_stand}
+use Rattle.graphql_core.proofs.sources.TokenPlaces.{IsToken, AppearsIn, part, tokens_appear}
 
 -- a token has some bytes
 some_bytes : (t : Token) → IsLexeme t → 0 < length t.spelling
-some_bytes t (k, s, rest, kind, stands) = (part (TokenOf k s) t.spelling rest stands).0
+some_bytes t (k, s, rest, kind, is_element) = (part (TokenOf k s) t.spelling rest is_element).0
 
 -- the items that are left are tokens in the input, and a last item
-left_stand : {most : ℕ} (text : List ℕ) (items : List Item) → IsLeft most text items → All (StandsIn text) items
-left_stand text items left =
-    subst (All (StandsIn text)) (drop_at left.past items (length left.past) refl)
-    (All-drop (StandsIn text) (length left.past) (left.past ++ items) (tokens_stand text (left.past ++ items) left.utf8 left.all))
+left_appear : {most : ℕ} (text : List ℕ) (items : List Item) → IsLeft most text items → All (AppearsIn text) items
+left_appear text items left =
+    subst (All (AppearsIn text)) (drop_at left.past items (length left.past) refl)
+    (All-drop (AppearsIn text) (length left.past) (left.past ++ items) (tokens_appear text (left.past ++ items) left.utf8 left.all))
 
 -- the next item is a token in the input, and those after it are left
-pub next_left : {most : ℕ} (text : List ℕ) (old new : List Item) (t : Cut) → NextItem old (Ok (Some t)) new → IsLeft most text old
+pub next_left : {most : ℕ} (text : List ℕ) (old new : List Item) (t : LexedToken) → NextItem old (Ok (Some t)) new → IsLeft most text old
     → (old ≡ item_at (TokenContent t.kind t.value.now) (next_place old) ∷ new) × IsToken text (next_place old) t.kind t.value.now × IsLeft most text new
 next_left {most} text old new t (w, e) left =
     let i : Item = item_at (TokenContent t.kind t.value.now) w in
-    let all = All-same (StandsIn text) (i ∷ new) old (sym e) (left_stand text old left) in
+    let all = All-same (AppearsIn text) (i ∷ new) old (sym e) (left_appear text old left) in
     let on : IsLeft most text new = record {
       past = left.past ++ i ∷ [];
       all = subst (HasItems text) (ap (λ (l : List Item). left.past ++ l) e ∙ sym (append_assoc left.past (i ∷ []) new)) left.all;
@@ -40,20 +40,20 @@ next_left {most} text old new t (w, e) left =
       narrow = left.narrow;
     } in
     let here : next_place old ≡ w = ap next_place e in
-    rw here (e, All-head (StandsIn text) i new all, on)
+    rw here (e, All-head (AppearsIn text) i new all, on)
 
 -- a token that a call returned from the items that were there is the next one
-pub next_of : (Next : List Item → Result (Option Cut) Bad → List Item → Type 0) (old was new : List Item)
-    (r : Result (Option Cut) Bad) (t : Cut) → was ≡ old → Next was r new → r ≡ Ok (Some t) → Next old (Ok (Some t)) new
+pub next_of : (Next : List Item → Result (Option LexedToken) Bad → List Item → Type 0) (old was new : List Item)
+    (r : Result (Option LexedToken) Bad) (t : LexedToken) → was ≡ old → Next was r new → r ≡ Ok (Some t) → Next old (Ok (Some t)) new
 next_of Next old was new r t same next is =
-    subst (λ (l : List Item). Next l (Ok (Some t)) new) same (subst (λ (x : Result (Option Cut) Bad). Next was x new) is next)
+    subst (λ (l : List Item). Next l (Ok (Some t)) new) same (subst (λ (x : Result (Option LexedToken) Bad). Next was x new) is next)
 
 -- if no token is left, going past one changes nothing
 unchanged : (i : Items) → i.tokens ≡ [] → i ≡ after i
 unchanged i none = let same = none ∙ sym (ap (drop 1) none) in λ j. record { tokens = same j; last = i.last; spent = i.spent }
 
 -- one item was taken, and one span was appended
-pub taken : {X : Type 0} (old new : List Item) (t : Cut) (spans more : List X) (s : X) (n : ℕ) → NextItem old (Ok (Some t)) new → more ≡ spans ++ s ∷ []
+pub taken : {X : Type 0} (old new : List Item) (t : LexedToken) (spans more : List X) (s : X) (n : ℕ) → NextItem old (Ok (Some t)) new → more ≡ spans ++ s ∷ []
     → length spans + length old ≡ n → length more + length new ≡ n
 taken old new t spans more s n (w, e) pushed count = omega (arith, ap length e, ap length pushed, length-append spans (s ∷ []), count)
 
@@ -99,10 +99,10 @@ module _ {W : Type 0} (number : W → ℕ) (text : List ℕ) where
     }
 
   -- one token on
-  pub one_cut : (spans : List (Span W)) (s : Span W) (old new : List Item) (k : Kind) (bytes : List ℕ) (w : Where) (all : Items)
+  pub one_tokenized : (spans : List (Span W)) (s : Span W) (old new : List Item) (k : Kind) (bytes : List ℕ) (w : Where) (all : Items)
       → all ≡ then_left number text spans (split old) → old ≡ item_at (TokenContent k bytes) w ∷ new → span_token number text s ≡ token_of w.position k bytes
       → all ≡ then_left number text (spans ++ s ∷ []) (split new)
-  one_cut spans s old new k bytes w all is next token =
+  one_tokenized spans s old new k bytes w all is next token =
       let f = span_token number text in
       is ∙ ap (λ (l : List Item). then_left number text spans (split l)) next
       ∙ ap (λ (x : Token). then_left number text spans (then_items x (split new))) (sym token)
@@ -110,9 +110,9 @@ module _ {W : Type 0} (number : W → ℕ) (text : List ℕ) where
       (sym (append_assoc (map f spans) (f s ∷ []) (split new).tokens) ∙ ap (λ (ts : List Token). ts ++ (split new).tokens) (sym (map-append f spans (s ∷ []))))
 
   -- all tokens are cut, and the last item is next
-  pub all_cut : (spans : List (Span W)) (left : List Item) (last : Last) (all : Items) → all ≡ then_left number text spans (split left)
+  pub all_tokenized : (spans : List (Span W)) (left : List Item) (last : Last) (all : Items) → all ≡ then_left number text spans (split left)
       → split left ≡ only_last last → all ≡ span_items number text spans last
-  all_cut spans left last all is next = is ∙ ap (λ (i : Items). then_left number text spans i) next
+  all_tokenized spans left last all is next = is ∙ ap (λ (i : Items). then_left number text spans i) next
 
   -- ---- the items that are left
 
@@ -177,7 +177,7 @@ module _ {W : Type 0} (number : W → ℕ) (text : List ℕ) where
       ap (λ (l : List (Span W)). span_items number text l last) (drop_all len spans (omega (arith, is))) ∙ past_last spans taken last (omega (arith, is, few))
 
   -- the error of the next token
-  pub fault_here : (s : Span W) (spans more : List (Span W)) (last : Last) (p : Pos) (value : List ℕ) (f : Refusal)
+  pub fault_here : (s : Span W) (spans more : List (Span W)) (last : Last) (p : Pos) (value : List ℕ) (f : ParseFailure)
       → spans ≡ s ∷ more → p.line ≡ number s.line → p.column ≡ number s.column → value ≡ (span_token number text s).spelling
       → ((following : Items) → IsNextFault (then_items (token_of p (s.kind) value) following) f) → IsNextFault (span_items number text spans last) f
   fault_here s spans more last p value f next line column spelled h =

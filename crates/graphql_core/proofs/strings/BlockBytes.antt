@@ -9,8 +9,8 @@ use Rattle.std.proofs.lemmas.Bool.{cases_Bool}
 use Rattle.std.proofs.lemmas.Bool.Decides.{nat_tests}
 use Rattle.graphql_core.specs.{is_block_character, is_block_byte}
 
-stands : (b : ℕ) → 32 ≤ b → b < 240 → is_block_byte b ≡ true
-stands b low high = grind (arith, nat_tests)
+in_block : (b : ℕ) → 32 ≤ b → b < 240 → is_block_byte b ≡ true
+in_block b low high = grind (arith, nat_tests)
 
 stops : (b : ℕ) → 240 ≤ b → is_block_byte b ≡ false
 stops b high = grind (arith, nat_tests)
@@ -38,7 +38,7 @@ encoded c = elim (cases_Bool (nat_lt c 128)) [
     | inl two ↦
         let low : 128 ≤ c = grind (arith, nat_tests) in
         let high : c < 2048 = grind (arith, nat_tests) in
-        rw (more, two, stands (192 + c / 64) (omega arith) (omega arith), stands (128 + c % 64) (omega arith) (omega arith))
+        rw (more, two, in_block (192 + c / 64) (omega arith) (omega arith), in_block (128 + c % 64) (omega arith) (omega arith))
         (sym (within c (omega arith) (omega arith)))
     | inr later ↦ elim (cases_Bool (nat_lt c 65536)) [
       | inl three ↦
@@ -48,9 +48,9 @@ encoded c = elim (cases_Bool (nat_lt c 128)) [
             more,
             later,
             three,
-            stands (224 + c / 4096) (omega arith) (omega arith),
-            stands (128 + c / 64 % 64) (omega arith) (omega arith),
-            stands (128 + c % 64) (omega arith) (omega arith),
+            in_block (224 + c / 4096) (omega arith) (omega arith),
+            in_block (128 + c / 64 % 64) (omega arith) (omega arith),
+            in_block (128 + c % 64) (omega arith) (omega arith),
           ) (sym (within c (omega arith) (omega arith)))
       | inr four ↦
           let low : 65536 ≤ c = grind (arith, nat_tests) in

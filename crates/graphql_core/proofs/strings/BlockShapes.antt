@@ -220,7 +220,7 @@ shape_indent s ls is =
 -- a line that is kept, by its number
 pub kept_line : (first through : ℕ) (ls : List (List ℕ)) (i : ℕ) (l : List ℕ) → first ≤ i → i < through → through ≤ length ls → l ≡ get_or ls i []
     → (i - first < length (kept first through ls)) × ((i, l) ≡ get_or (kept first through ls) (i - first) (i, l))
-kept_line first through ls i l low high room at =
+kept_line first through ls i l low high capacity at =
     let numbers = enumerate_from 0 ls in
     let sum : first + (i - first) ≡ i = omega arith in
     let inside : i < length ls = omega arith in
@@ -234,6 +234,6 @@ kept_line first through ls i l low high room at =
 
 -- how many lines are kept
 pub length-kept : (first through : ℕ) (ls : List (List ℕ)) → through ≤ length ls → length (kept first through ls) ≡ through - first
-length-kept first through ls room =
+length-kept first through ls capacity =
     let numbers = enumerate_from 0 ls in
     omega (arith, length-drop first (take through numbers), length-take through numbers, length-enumerate_from 0 ls)

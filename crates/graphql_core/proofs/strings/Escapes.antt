@@ -14,7 +14,7 @@ use Rattle.std.proofs.lemmas.List.{take_at, drop_at, get_or_append_left, append-
 use Rattle.std.proofs.lemmas.Str.{IsCharBoundary-after_ascii, encode_ascii, char_from_byte}
 use Rattle.std.proofs.lemmas.Str.Ascii.{IsAscii-cons, IsAscii-nil}
 use Rattle.std.proofs.lemmas.Str.Parse.{without_leading_plus_none}
-use Rattle.graphql_core.specs.{NamesCharacter, StandsFor, HasValue, IsInQuotes, BeginsName, BeginsNoName, BeginsEscape, BeginsNoEscape, itself, escaped_quote}
+use Rattle.graphql_core.specs.{NamesCharacter, Denotes, HasValue, IsInQuotes, BeginsName, BeginsNoName, BeginsEscape, BeginsNoEscape, itself, escaped_quote}
 use Rattle.graphql_core.specs.{escaped_backslash, escaped_slash, escaped_backspace, escaped_form_feed, escaped_line_feed, escaped_carriage_return, escaped_tab}
 use Rattle.graphql_core.specs.{escaped_unicode, no_units, unit_then}
 
@@ -99,7 +99,7 @@ record IsPlain (unit bytes : List ℕ) : Type 0 where
 record IsSimple (unit bytes : List ℕ) : Type 0 where
   letter : ℕ
   value : ℕ
-  stands : simple letter ≡ Some value
+  letter_denotes : simple letter ≡ Some value
   unit_is : unit ≡ 92 ∷ letter ∷ []
   bytes_are : bytes ≡ value ∷ []
 
@@ -111,9 +111,9 @@ record IsNamed (unit bytes : List ℕ) : Type 0 where
   bytes_are : bytes ≡ encode_utf8 code
 
 one_letter : (c v : ℕ) → simple c ≡ Some v → IsPlain (92 ∷ c ∷ []) (v ∷ []) ⊎ (IsSimple (92 ∷ c ∷ []) (v ∷ []) ⊎ IsNamed (92 ∷ c ∷ []) (v ∷ []))
-one_letter c v e = inr (inl (record { letter = c; value = v; stands = e; unit_is = refl; bytes_are = refl }))
+one_letter c v e = inr (inl (record { letter = c; value = v; letter_denotes = e; unit_is = refl; bytes_are = refl }))
 
-kind_of : {unit bytes : List ℕ} → StandsFor unit bytes → IsPlain unit bytes ⊎ (IsSimple unit bytes ⊎ IsNamed unit bytes)
+kind_of : {unit bytes : List ℕ} → Denotes unit bytes → IsPlain unit bytes ⊎ (IsSimple unit bytes ⊎ IsNamed unit bytes)
 unfolding simple
 kind_of (itself b h) = inl (record { byte = b; other = h; unit_is = refl; bytes_are = refl })
 kind_of escaped_quote = one_letter 34 34 refl
@@ -145,7 +145,7 @@ ascii_front : (text rest : List ℕ) (c : ℕ) → c < 128 → text ≡ encode_u
 ascii_front text rest c h e = e ∙ ap (λ t. t ++ rest) (encode_ascii c h)
 
 -- an escape of one letter
-pub letter_escape : (text rest : List ℕ) (c v : ℕ) → c < 128 → v < 128 → StandsFor (92 ∷ c ∷ []) (v ∷ []) → text ≡ encode_utf8 c ++ rest
+pub letter_escape : (text rest : List ℕ) (c v : ℕ) → c < 128 → v < 128 → Denotes (92 ∷ c ∷ []) (v ∷ []) → text ≡ encode_utf8 c ++ rest
     → BeginsEscape text v rest
 letter_escape text rest c v hc hv s e = (c ∷ [], rw (encode_ascii v hv) s, ascii_front text rest c hc e)
 
@@ -166,9 +166,9 @@ no_escape_in text rest unit bytes after c e none no_name at (inl p) = let u = p.
 no_escape_in text rest unit bytes after c e none no_name at (inr (inl p)) =
     let u = p.unit_is in
     let unit_is : unit ≡ p.letter ∷ [] = cc in
-    let same = char_is text rest after c p.letter (simple_small p.letter p.value p.stands) e (at ∙ ap (λ k. k ++ after) unit_is) in
-    let stands = sym (ap simple same) ∙ none in
-    let taken = p.stands in
+    let same = char_is text rest after c p.letter (simple_small p.letter p.value p.letter_denotes) e (at ∙ ap (λ k. k ++ after) unit_is) in
+    let letter_denotes = sym (ap simple same) ∙ none in
+    let taken = p.letter_denotes in
     cc
 no_escape_in text rest unit bytes after c e none no_name at (inr (inr p)) =
     let u = p.unit_is in
@@ -234,26 +234,26 @@ first_by u v r w t x e (inr (inl p)) (inr (inl q)) =
     let h : 92 ∷ p.letter ∷ r ≡ 92 ∷ q.letter ∷ x = ap (λ k. k ++ r) (sym p.unit_is) ∙ e ∙ ap (λ k. k ++ x) q.unit_is in
     let letter : p.letter ≡ q.letter = cc in
     let rest : r ≡ x = cc in
-    let stands = sym p.stands ∙ ap simple letter ∙ q.stands in
+    let letter_denotes = sym p.letter_denotes ∙ ap simple letter ∙ q.letter_denotes in
     let value : p.value ≡ q.value = cc in
     (p.bytes_are ∙ ap (λ k. k ∷ []) value ∙ sym q.bytes_are, rest)
 first_by u v r w t x e (inr (inl p)) (inr (inr q)) =
     let h : 92 ∷ p.letter ∷ r ≡ 92 ∷ 117 ∷ (q.digits ++ x) = ap (λ k. k ++ r) (sym p.unit_is) ∙ e ∙ ap (λ k. k ++ x) q.unit_is in
     let letter : p.letter ≡ 117 = cc in
-    absurd (simple_u p.value (ap simple (sym letter) ∙ p.stands))
+    absurd (simple_u p.value (ap simple (sym letter) ∙ p.letter_denotes))
 first_by u v r w t x e (inr (inr p)) (inl q) =
     let h : 92 ∷ 117 ∷ (p.digits ++ r) ≡ q.byte ∷ x = ap (λ k. k ++ r) (sym p.unit_is) ∙ e ∙ ap (λ k. k ++ x) q.unit_is in
     absurd (q.other (cc))
 first_by u v r w t x e (inr (inr p)) (inr (inl q)) =
     let h : 92 ∷ 117 ∷ (p.digits ++ r) ≡ 92 ∷ q.letter ∷ x = ap (λ k. k ++ r) (sym p.unit_is) ∙ e ∙ ap (λ k. k ++ x) q.unit_is in
     let letter : q.letter ≡ 117 = cc in
-    absurd (simple_u q.value (ap simple (sym letter) ∙ q.stands))
+    absurd (simple_u q.value (ap simple (sym letter) ∙ q.letter_denotes))
 first_by u v r w t x e (inr (inr p)) (inr (inr q)) =
     let h : 92 ∷ 117 ∷ (p.digits ++ r) ≡ 92 ∷ 117 ∷ (q.digits ++ x) = ap (λ k. k ++ r) (sym p.unit_is) ∙ e ∙ ap (λ k. k ++ x) q.unit_is in
     let (code, rest) = names_same p.digits r q.digits x p.code q.code p.names q.names (ap (drop 2) h) in
     (p.bytes_are ∙ ap encode_utf8 code ∙ sym q.bytes_are, rest)
 
-unit_same : {u v w t : List ℕ} (r x : List ℕ) → StandsFor u v → StandsFor w t → u ++ r ≡ w ++ x → (v ≡ t) × (r ≡ x)
+unit_same : {u v w t : List ℕ} (r x : List ℕ) → Denotes u v → Denotes w t → u ++ r ≡ w ++ x → (v ≡ t) × (r ≡ x)
 unfolding Kinds
 unit_same {u} {v} {w} {t} r x s z e = first_by u v r w t x e (kind_of s) (kind_of z)
 
@@ -274,7 +274,7 @@ empty_value _ _ no_units e = refl
 empty_value _ _ (unit_then unit bytes body value s h) e = absurd (not_empty unit bytes (empty_front unit body e) (kind_of s))
 
 -- the value of a unit and of what follows begins with what the unit denotes
-past_unit_of : {unit bytes : List ℕ} (rest text v : List ℕ) → StandsFor unit bytes → HasValue text v → text ≡ unit ++ rest → (w : List ℕ) × (v ≡ bytes ++ w)
+past_unit_of : {unit bytes : List ℕ} (rest text v : List ℕ) → Denotes unit bytes → HasValue text v → text ≡ unit ++ rest → (w : List ℕ) × (v ≡ bytes ++ w)
     × HasValue rest w
 unfolding Kinds
 past_unit_of {unit} {bytes} rest _ _ s no_units e = absurd (not_empty unit bytes (empty_front unit rest (sym e)) (kind_of s))
@@ -329,7 +329,7 @@ escape_of text _ _ none (unit_then [] bytes body value s h) e = not_empty [] byt
 escape_of text _ _ none (unit_then (b ∷ unit) bytes body value s h) e =
     let first : b ≡ 92 = cc in
     let others : unit ++ body ≡ text = cc in
-    none unit bytes body (subst (λ k. StandsFor (k ∷ unit) bytes) first s) (sym others)
+    none unit bytes body (subst (λ k. Denotes (k ∷ unit) bytes) first s) (sym others)
 
 pub no_value : (p text v : List ℕ) → ((i : ℕ) → i < length p → get_or p i 0 ≢ 92) → BeginsNoEscape text → HasValue (p ++ (92 ∷ text)) v → ⊥
 no_value p text v none no_escape h =

@@ -7,7 +7,7 @@ use Rattle.std.proofs.lemmas.Bool.{eqb-true, leb-true, ltb-true, le-leb, lt-ltb,
 use Rattle.std.proofs.lemmas.List.{take_at}
 use Rattle.std.proofs.lemmas.List.Folds.{list_any-append}
 use Rattle.graphql_core.specs.{is_natural, is_fraction, is_exponent, IsFloat, with_fraction, with_exponent, with_both, ClosesBlock, closing, escape, unit}
-use Rattle.graphql_core.specs.{name_token, punctuator_token, Stands, TokenOf, integer_token, block_string_token, float_token, string_token, spread_token}
+use Rattle.graphql_core.specs.{name_token, punctuator_token, IsLexicalElement, TokenOf, integer_token, block_string_token, float_token, string_token, spread_token}
 use Rattle.graphql_core.specs.{is_integer, IsLexeme, is_whole_exponent, EndsFloat, fraction, exponent, both, IsFloatLiteral, IsInQuotes, IsInTripleQuotes}
 use Rattle.graphql_core.specs.{Token, kind_number, int_of, is_in_range, is_exponent_indicator, after_indicator, has_whole_exponent, without_ends}
 use Rattle.graphql_core.proofs.lexical.{natural_digits}
@@ -142,8 +142,8 @@ whole_exponent run h = (whole_literal h, λ (i, e, is, first, ends). rw is (lite
 pub literal_taken : (text run : List ℕ) → text ≡ run → IsFloat run → IsFloatLiteral text → has_whole_exponent run ≡ true
 literal_taken text run e f h = (whole_exponent run f).1 (subst IsFloatLiteral e h)
 
-pub literal_refused : (text run : List ℕ) → text ≡ run → IsFloat run → (IsFloatLiteral text → ⊥) → has_whole_exponent run ≡ false
-literal_refused text run e f h = false_from_ne_true _ (λ whole. h (subst IsFloatLiteral (sym e) ((whole_exponent run f).0 whole)))
+pub literal_rejected : (text run : List ℕ) → text ≡ run → IsFloat run → (IsFloatLiteral text → ⊥) → has_whole_exponent run ≡ false
+literal_rejected text run e f h = false_from_ne_true _ (λ whole. h (subst IsFloatLiteral (sym e) ((whole_exponent run f).0 whole)))
 
 -- ---- quotes
 
@@ -175,7 +175,7 @@ IsSpelledAs BlockString bytes = IsInTripleQuotes bytes (without_ends 3 bytes)
 IsSpelledAs Punctuator bytes = Unit {0}
 IsSpelledAs Name bytes = Unit {0}
 
-pub spelled_as : {bytes : List ℕ} {k : Kind} {s : Nesting} {rest : List ℕ} → Stands bytes (TokenOf k s) rest → IsSpelledAs k bytes
+pub spelled_as : {bytes : List ℕ} {k : Kind} {s : Nesting} {rest : List ℕ} → IsLexicalElement bytes (TokenOf k s) rest → IsSpelledAs k bytes
 spelled_as (name_token first more stop) = tt
 spelled_as (punctuator_token is) = tt
 spelled_as spread_token = tt
@@ -203,6 +203,6 @@ kind_back BlockString = refl
 
 -- a token of the lexical grammar is spelled as its kind requires
 pub lexeme_spelled : (k : Kind) (t : Token) → t.kind ≡ kind_number k → IsLexeme t → IsSpelledAs k t.spelling
-lexeme_spelled k t e (j, s, rest, is, stands) =
+lexeme_spelled k t e (j, s, rest, is, is_element) =
     let same : j ≡ k = sym (kind_back j) ∙ ap kind_at (sym is ∙ e) ∙ kind_back k in
-    subst (λ i. IsSpelledAs i t.spelling) same (spelled_as stands)
+    subst (λ i. IsSpelledAs i t.spelling) same (spelled_as is_element)

@@ -40,8 +40,8 @@ pub escaped_ascii : (b : ℕ) → is_unescaped b ≡ false → b < 128
 escaped_ascii b h = grind (arith, nat_tests)
 
 -- if each byte outside a class is ASCII, there is a character boundary after a run of that class
-pub run_cuts : (p : ℕ → Bool) → ((b : ℕ) → p b ≡ false → b < 128) → (text : List ℕ) (n : ℕ) → n ≡ prefix_len p text → IsCharBoundary text n
-run_cuts p ascii text n e =
+pub run_ends_whole : (p : ℕ → Bool) → ((b : ℕ) → p b ≡ false → b < 128) → (text : List ℕ) (n : ℕ) → n ≡ prefix_len p text → IsCharBoundary text n
+run_ends_whole p ascii text n e =
     subst (IsCharBoundary text) (sym e)
     (elim (cases_Bool (nat_lt (prefix_len p text) (length text))) [
       | inl t ↦
@@ -54,18 +54,18 @@ run_cuts p ascii text n e =
 
 -- after the bytes that are written unescaped
 pub unescaped_boundary : (text : List ℕ) (n : ℕ) → IsUtf8 text → n ≡ prefix_len is_unescaped text → IsCharBoundary text n
-unescaped_boundary text n u e = run_cuts is_unescaped escaped_ascii text n e
+unescaped_boundary text n u e = run_ends_whole is_unescaped escaped_ascii text n e
 
 -- the unescaped bytes at the front, and the rest
 quoted_run : (text : List ℕ) (n : ℕ) → n ≡ prefix_len is_unescaped text → flat_map quoted_byte text ≡ take n text ++ flat_map quoted_byte (drop n text)
 quoted_run text zero e = refl
 quoted_run [] (suc n) e = absurd (omega (arith, e))
 quoted_run (b ∷ bs) (suc n) e = elim (cases_Bool (is_unescaped b)) [
-  | inl stands ↦
+  | inl holds ↦
       let large : 32 ≤ b = grind (arith, nat_tests) in
       let quote : b ≢ 34 = λ f. grind (arith, nat_tests) in
       let slash : b ≢ 92 = λ f. grind (arith, nat_tests) in
-      let more : n ≡ prefix_len is_unescaped bs = omega (arith, rw stands at e) in
+      let more : n ≡ prefix_len is_unescaped bs = omega (arith, rw holds at e) in
       rw (plain_byte b large quote slash) (ap (λ r. b ∷ r) (quoted_run bs n more))
   | inr escaped ↦ absurd (omega (arith, rw escaped at e))
 ]
@@ -79,9 +79,9 @@ unescaped_parts text run more n e front back =
 one_line : (text : List ℕ) → prefix_len is_unescaped text ≡ length text → list_any (λ b. b == 10) text ≡ false
 one_line [] e = refl
 one_line (b ∷ bs) e = elim (cases_Bool (is_unescaped b)) [
-  | inl stands ↦
+  | inl holds ↦
       let other : b ≢ 10 = λ f. grind (arith, nat_tests) in
-      rw (ne_eqb b 10 other) (one_line bs (omega (arith, rw stands at e)))
+      rw (ne_eqb b 10 other) (one_line bs (omega (arith, rw holds at e)))
   | inr escaped ↦ absurd (omega (arith, rw escaped at e))
 ]
 
@@ -93,14 +93,14 @@ pub escaped_next : (text : List ℕ) (n b : ℕ) (bs : List ℕ) → n ≡ prefi
 escaped_next [] zero b bs e next = absurd cc
 escaped_next [] (suc n) b bs e next = absurd (omega (arith, e))
 escaped_next (x ∷ xs) zero b bs e next = elim (cases_Bool (is_unescaped x)) [
-  | inl stands ↦ absurd (omega (arith, rw stands at e))
+  | inl holds ↦ absurd (omega (arith, rw holds at e))
   | inr escaped ↦
       let same : b ≡ x = cc in
       ap is_unescaped same ∙ escaped
 ]
 escaped_next (x ∷ xs) (suc n) b bs e next = elim (cases_Bool (is_unescaped x)) [
-  | inl stands ↦
-      let more : n ≡ prefix_len is_unescaped xs = omega (arith, rw stands at e) in
+  | inl holds ↦
+      let more : n ≡ prefix_len is_unescaped xs = omega (arith, rw holds at e) in
       escaped_next xs n b bs more next
   | inr escaped ↦ absurd (omega (arith, rw escaped at e))
 ]

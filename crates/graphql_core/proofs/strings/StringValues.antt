@@ -5,7 +5,7 @@ use Rattle.std.proofs.Common.{◌∙◌, subst, inl, inr, arith}
 use Rattle.std.proofs.lemmas.Bool.{ne_eqb, cases_eq, and_parts, not-true, cases_Bool}
 use Rattle.std.specs.Option.{unwrap_or}
 use Rattle.std.specs.Str.Parse.{digits_value}
-use Rattle.graphql_core.specs.{NamesCharacter, StandsFor, HasNoStringValue, itself, escaped_quote, escaped_backslash, escaped_slash, escaped_backspace}
+use Rattle.graphql_core.specs.{NamesCharacter, Denotes, HasNoStringValue, itself, escaped_quote, escaped_backslash, escaped_slash, escaped_backspace}
 use Rattle.graphql_core.specs.{escaped_form_feed, escaped_line_feed, escaped_carriage_return, escaped_tab, escaped_unicode, no_units, unit_then, HasValue}
 use Rattle.graphql_core.specs.{string_of, without_ends, before, escape_of, is_surrogate, named_by, unquoted, escaped, unquoted_unicode}
 use Rattle.std.proofs.lemmas.Bool.Decides.{nat_tests}
@@ -35,7 +35,7 @@ past_name (p ∷ q ∷ r ∷ []) c body value n h = let four = n.four in absurd 
 past_name (p ∷ q ∷ r ∷ s ∷ []) c body value n h = before_some _ _ _ _ (named_some (p ∷ q ∷ r ∷ s ∷ []) c n) h
 past_name (p ∷ q ∷ r ∷ s ∷ t ∷ others) c body value n h = let four = n.four in absurd (omega arith)
 
-past_unit : {unit bytes : List ℕ} (body value : List ℕ) → StandsFor unit bytes → unquoted body ≡ Some value → unquoted (unit ++ body) ≡ Some (bytes ++ value)
+past_unit : {unit bytes : List ℕ} (body value : List ℕ) → Denotes unit bytes → unquoted body ≡ Some value → unquoted (unit ++ body) ≡ Some (bytes ++ value)
 unfolding unquoted escaped unquoted_unicode
 past_unit body value (itself b h) e = rw (ne_eqb b 92 h, e) refl
 past_unit body value escaped_quote e = rw e refl
@@ -67,7 +67,7 @@ joined (Some a) (Some b) v e = record { front = a; after = b; front_is = refl; a
 joined (Some a) None v e = absurd cc
 joined None p v e = absurd cc
 
-letter_at : (c k : ℕ) (a value : List ℕ) → escape_of k ≡ Some value → StandsFor (92 ∷ k ∷ []) value → escape_of c ≡ Some a → c ≡ k → StandsFor (92 ∷ c ∷ []) a
+letter_at : (c k : ℕ) (a value : List ℕ) → escape_of k ≡ Some value → Denotes (92 ∷ k ∷ []) value → escape_of c ≡ Some a → c ≡ k → Denotes (92 ∷ c ∷ []) a
 letter_at c k a value f s e h =
     let same = sym e ∙ ap escape_of h ∙ f in
     let bytes : a ≡ value = cc in
@@ -77,9 +77,9 @@ no_letter : (c : ℕ) → c ≢ 34 → c ≢ 92 → c ≢ 47 → c ≢ 98 → c 
 no_letter c h1 h2 h3 h4 h5 h6 h7 h8 = rw
     (ne_eqb c 34 h1, ne_eqb c 92 h2, ne_eqb c 47 h3, ne_eqb c 98 h4, ne_eqb c 102 h5, ne_eqb c 110 h6, ne_eqb c 114 h7, ne_eqb c 116 h8) refl
 
-letter : (c : ℕ) (a : List ℕ) → escape_of c ≡ Some a → StandsFor (92 ∷ c ∷ []) a
+letter : (c : ℕ) (a : List ℕ) → escape_of c ≡ Some a → Denotes (92 ∷ c ∷ []) a
 letter c a e =
-    let at = λ (k : ℕ) (value : List ℕ) (f : escape_of k ≡ Some value) (s : StandsFor (92 ∷ k ∷ []) value) (h : c ≡ k). letter_at c k a value f s e h in
+    let at = λ (k : ℕ) (value : List ℕ) (f : escape_of k ≡ Some value) (s : Denotes (92 ∷ k ∷ []) value) (h : c ≡ k). letter_at c k a value f s e h in
     elim (cases_eq c 34) [
       | inl h ↦ at 34 _ refl escaped_quote h
       | inr h1 ↦
@@ -121,7 +121,7 @@ letter c a e =
 scalar_value : (c : ℕ) → c < 65536 → is_surrogate c ≡ false → IsScalar c
 scalar_value c h s = grind (arith, nat_tests)
 
-name_of : (ds a : List ℕ) → length ds ≡ 4 → named_by ds ≡ Some a → StandsFor (92 ∷ 117 ∷ ds) a
+name_of : (ds a : List ℕ) → length ds ≡ 4 → named_by ds ≡ Some a → Denotes (92 ∷ 117 ∷ ds) a
 name_of ds a n e =
     elim (cases_Bool (list_all is_ascii_hexdigit ds && not (is_surrogate (digits_value 16 ds)))) [
       | inl h ↦
@@ -134,13 +134,13 @@ name_of ds a n e =
     ]
 
 -- a unit before a string that has a value
-add_unit : {o p : Option (List ℕ)} {v : List ℕ} (unit body : List ℕ) → ((a : List ℕ) → o ≡ Some a → StandsFor unit a)
+add_unit : {o p : Option (List ℕ)} {v : List ℕ} (unit body : List ℕ) → ((a : List ℕ) → o ≡ Some a → Denotes unit a)
     → ((b : List ℕ) → p ≡ Some b → HasValue body b) → before o p ≡ Some v → HasValue (unit ++ body) v
-add_unit {o} {p} {v} unit body stands rest e =
+add_unit {o} {p} {v} unit body holds rest e =
     let j = joined o p v e in
-    subst (HasValue (unit ++ body)) j.whole (unit_then unit j.front body j.after (stands j.front j.front_is) (rest j.after j.after_is))
+    subst (HasValue (unit ++ body)) j.whole (unit_then unit j.front body j.after (holds j.front j.front_is) (rest j.after j.after_is))
 
-plain_unit : (b : ℕ) (a : List ℕ) → b ≢ 92 → Some (b ∷ []) ≡ Some a → StandsFor (b ∷ []) a
+plain_unit : (b : ℕ) (a : List ℕ) → b ≢ 92 → Some (b ∷ []) ≡ Some a → Denotes (b ∷ []) a
 plain_unit b a h e = let bytes : a ≡ b ∷ [] = cc in rw bytes (itself b h)
 
 mutual

@@ -7,7 +7,7 @@ use Rattle.graphql_core.specs.{is_plain_in_block, is_blank_line, lines_of, is_em
 use Rattle.std.specs.Str.{IsUtf8, IsCharBoundary}
 use Rattle.std.proofs.lemmas.Bool.{cases_Bool}
 use Rattle.std.proofs.lemmas.Bool.Decides.{nat_tests}
-use Rattle.graphql_core.proofs.strings.QuotedText.{run_cuts}
+use Rattle.graphql_core.proofs.strings.QuotedText.{run_ends_whole}
 use Rattle.graphql_core.proofs.strings.BlockBytes.{all_both}
 
 -- a byte that is in no line is ASCII
@@ -15,8 +15,8 @@ feed_ascii : (b : ℕ) → not (b == 10) ≡ false → b < 128
 feed_ascii b h = grind (arith, nat_tests)
 
 -- there is a character boundary after the first line
-pub line_cuts : (text : List ℕ) (n : ℕ) → IsUtf8 text → n ≡ prefix_len (λ b. not (b == 10)) text → IsCharBoundary text n
-line_cuts text n u e = run_cuts (λ b. not (b == 10)) feed_ascii text n e
+pub line_ends_whole : (text : List ℕ) (n : ℕ) → IsUtf8 text → n ≡ prefix_len (λ b. not (b == 10)) text → IsCharBoundary text n
+line_ends_whole text n u e = run_ends_whole (λ b. not (b == 10)) feed_ascii text n e
 
 -- the only line
 only_line : (text : List ℕ) (n : ℕ) → n ≡ prefix_len (λ b. not (b == 10)) text → ((rest : List ℕ) → drop n text ≢ 10 ∷ rest) → lines_of text ≡ take n text ∷ []

@@ -4,10 +4,10 @@ use Rattle.std.proofs.Common.{◌≡◌, ℕ, true, false, List, ◌∷◌, Some
 use Rattle.graphql_core.proofs.sources.{minified_tokens}
 use Rattle.graphql_core.proofs.lexical.{items_unique}
 use Rattle.graphql_core.specs.{float, string, item, enum, object, int, ValueTree, TypeTree, named, list_of, no_place, erase, erase_all, variable, list}
-use Rattle.graphql_core.specs.{no_members, Token, Class, ParseTree, accepts, Item, HasItems, Items, split, IsEnd, IsMinified, Refusal, int_of, string_of}
+use Rattle.graphql_core.specs.{no_members, Token, Class, ParseTree, accepts, Item, HasItems, Items, split, IsEnd, IsMinified, ParseFailure, int_of, string_of}
 use Rattle.graphql_core.specs.{block_string_of, spelling_at, plain_of, put_all, value_of, values_of, argument_of, pairs_of, const_of, consts_of, const_pair_of}
 use Rattle.graphql_core.specs.{const_pairs_of, default_of, optional_default_of, optional_non_null, type_of, arguments_of, optional_arguments_of, directive_of}
-use Rattle.graphql_core.specs.{directives_of, IsDocument, IsDocumentOf, IsReadBack, IsParsed, AreAlike, is_there, optional_of, optional_list_of, each_of}
+use Rattle.graphql_core.specs.{directives_of, IsDocument, IsDocumentOf, ParsesBackTo, IsParsed, AreAlike, is_there, optional_of, optional_list_of, each_of}
 use Rattle.graphql_core.specs.{enclosed_of, separated_of, joined_of, Language, valued}
 use Rattle.graphql_core.proofs.values.TreesAlike.{SameTrees, same_leaf, same_block, same_both, same_first, same_second, same_more, same_node, left_tree}
 use Rattle.graphql_core.proofs.values.TreesAlike.{right_tree, SameLeaf, AlikeBy, Alike, alike_values, have_blocks_last, blocks_last_at, refilled}
@@ -187,7 +187,7 @@ module _ {D : Type 0} (l : Language D) (p : DependsOnValues l) where
 
   -- inputs whose tokens have the same kinds and values have the same document, ignoring positions
   pub same_values_document : (source text : List ℕ) (items others : List Item) → HasItems source items → HasItems text others → IsEnd (split others).last
-      → map valued (split others).tokens ≡ map valued (split items).tokens → (d : D) → IsDocumentOf l source d → IsReadBack l text d
+      → map valued (split others).tokens ≡ map valued (split items).tokens → (d : D) → IsDocumentOf l source d → ParsesBackTo l text d
   same_values_document source text items others has h end alike d (mine, k, doc) =
       let (e, doc', same) = values_document (split items) (split others) alike end d
       (subst (λ (is : List Item). IsDocument l (split is) d) (items_unique source mine items k has) doc) in
@@ -195,7 +195,7 @@ module _ {D : Type 0} (l : Language D) (p : DependsOnValues l) where
 
   -- such inputs parse alike
   pub same_values_parsed : (source text : List ℕ) (items others : List Item) → HasItems source items → HasItems text others → IsEnd (split items).last
-      → IsEnd (split others).last → map valued (split others).tokens ≡ map valued (split items).tokens → (r s : Result D Refusal) → IsParsed l source r
+      → IsEnd (split others).last → map valued (split others).tokens ≡ map valued (split items).tokens → (r s : Result D ParseFailure) → IsParsed l source r
       → IsParsed l text s → AreAlike l r s
   same_values_parsed source text items others has h last end alike (Ok d) (Ok e) (derived, complete) (found, all) =
       let (f, doc, same) = same_values_document source text items others has h end alike d derived in
@@ -209,18 +209,18 @@ module _ {D : Type 0} (l : Language D) (p : DependsOnValues l) where
   same_values_parsed source text items others has h last end alike (Err f) (Err g) p q = tt
 
   -- a minified output has the document of the source, ignoring positions, and no other
-  pub minified_document : (source text : List ℕ) → IsMinified source text → (d : D) → IsDocumentOf l source d → IsReadBack l text d
+  pub minified_document : (source text : List ℕ) → IsMinified source text → (d : D) → IsDocumentOf l source d → ParsesBackTo l text d
   minified_document source text is d (items, has, doc) =
       let (others, h, alike, end) = minified_tokens source text is items has in
       same_values_document source text items others has h end (alike_values (split others).tokens (split items).tokens alike) d (items, has, doc)
 
-  pub source_document : (source text : List ℕ) → IsMinified source text → (d : D) → IsDocumentOf l text d → IsReadBack l source d
+  pub source_document : (source text : List ℕ) → IsMinified source text → (d : D) → IsDocumentOf l text d → ParsesBackTo l source d
   source_document source text (items, has, last, is) d doc =
       let (others, h, alike, end) = minified_tokens source text (items, has, last, is) items has in
       same_values_document text source others items h has last (sym (alike_values (split others).tokens (split items).tokens alike)) d doc
 
   -- a minified output parses as its source does, ignoring positions
-  pub parsed_alike : (source text : List ℕ) (r s : Result D Refusal) → IsMinified source text → IsParsed l source r → IsParsed l text s → AreAlike l r s
+  pub parsed_alike : (source text : List ℕ) (r s : Result D ParseFailure) → IsMinified source text → IsParsed l source r → IsParsed l text s → AreAlike l r s
   parsed_alike source text r s (items, has, last, is) p q =
       let (others, h, alike, end) = minified_tokens source text (items, has, last, is) items has in
       same_values_parsed source text items others has h last end (alike_values (split others).tokens (split items).tokens alike) r s p q

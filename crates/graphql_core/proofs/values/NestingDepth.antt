@@ -7,8 +7,8 @@ use Rattle.std.proofs.lemmas.List.Elements.{All-nil, All-cons}
 use Rattle.std.proofs.lemmas.Bool.{cases_Bool, and_parts, or_cases, false_from_ne_true, eq-eqb, both_ways}
 use Rattle.std.proofs.lemmas.List.{drop_at, drop-drop, length-replicate}
 use Rattle.graphql_core.specs.{class_kind, takes_spelling, in_any, apart_from, within_any, Token, Place, Class, Spelled, matches, name_token, punctuator_token}
-use Rattle.graphql_core.specs.{is_opener, is_closer, IsName, Meaning, Ignored, TokenOf, Stands, spread_token, integer_token, float_token, string_token}
-use Rattle.graphql_core.specs.{block_string_token, Piece, IsCutInto, HasItemsFrom, depth_of, is_full, last_item, Where, Item, item_at, TokenContent, HasItems}
+use Rattle.graphql_core.specs.{is_opener, is_closer, IsName, Meaning, Ignored, TokenOf, IsLexicalElement, spread_token, integer_token, float_token, string_token}
+use Rattle.graphql_core.specs.{block_string_token, Piece, IsTokenizedInto, HasItemsFrom, depth_of, is_full, last_item, Where, Item, item_at, TokenContent, HasItems}
 use Rattle.graphql_core.specs.{start, past_ignored, past_token, piece_then, items_of, AreItemsOfRest, next_place, ParseTree, Nothing, Leaf, Both, First, Second}
 use Rattle.graphql_core.specs.{Stop, More, Node, leaves, kind_number, Last, split, place_of, token_of, IsLexeme}
 use Rattle.graphql_core.proofs.grammar.{all_within-sound, apart_from-sound}
@@ -65,22 +65,22 @@ closer_same : (b : ℕ) (p : Place) → in_any closings (punctuator_token_at b p
 closer_same b p = grind (arith, nat_tests)
 
 -- the kind and the bytes of a token decide its nesting
-stands-nesting : {bytes : List ℕ} {k : Kind} {s : Nesting} {rest : List ℕ} → Stands bytes (TokenOf k s) rest → (p : Place)
+element-nesting : {bytes : List ℕ} {k : Kind} {s : Nesting} {rest : List ℕ} → IsLexicalElement bytes (TokenOf k s) rest → (p : Place)
     → nesting_of (record { kind = kind_number k; spelling = bytes; place = p }) ≡ s
-stands-nesting (name_token first more stop) p = refl
-stands-nesting (punctuator_token {b} is) p = rw (opener_same b p, closer_same b p) refl
-stands-nesting spread_token p = refl
-stands-nesting (integer_token run ends) p = refl
-stands-nesting (float_token run ends) p = refl
-stands-nesting (string_token body units next) p = refl
-stands-nesting (block_string_token closes) p = refl
+element-nesting (name_token first more stop) p = refl
+element-nesting (punctuator_token {b} is) p = rw (opener_same b p, closer_same b p) refl
+element-nesting spread_token p = refl
+element-nesting (integer_token run ends) p = refl
+element-nesting (float_token run ends) p = refl
+element-nesting (string_token body units next) p = refl
+element-nesting (block_string_token closes) p = refl
 
 -- n more brackets can be opened there
-abbrev pub IsRoom : Where → ℕ → Type 0
-IsRoom w n = w.openers + n ≡ w.closers + 50
+abbrev pub IsCapacity : Where → ℕ → Type 0
+IsCapacity w n = w.openers + n ≡ w.closers + 50
 
 -- if the depth is below the limit, one more bracket can be opened
-not_full : (w : Where) (n : ℕ) → IsRoom w n → is_full w ≡ false → (m : ℕ) × (n ≡ suc m)
+not_full : (w : Where) (n : ℕ) → IsCapacity w n → is_full w ≡ false → (m : ℕ) × (n ≡ suc m)
 not_full w zero e f = absurd (both_ways (is_full w) f (eq-eqb _ _ (omega arith)))
 not_full w (suc m) e f = (m, refl)
 
@@ -90,9 +90,9 @@ pub record Left (whole : List ℕ) (last : Last) (is : List Item) (others : List
   pub pieces : List Piece
   pub rest : List ℕ
   pub stop : List ℕ
-  pub cut : IsCutInto rest pieces stop
+  pub tokenized : IsTokenizedInto rest pieces stop
   pub there : drop place.offset whole ≡ rest
-  pub room : IsRoom place m
+  pub capacity : IsCapacity place m
   pub items : is ≡ items_of place pieces stop
   pub tokens : (split is).tokens ≡ others
   pub ends : (split is).last ≡ last
@@ -107,19 +107,19 @@ module _ (whole stop : List ℕ) (last : Last) (others : List Token) where
       → Nests front n (Left whole last (drop (length front) is) others)
 
   abbrev LeavesLater : List ℕ → (Where → List Item) → Type 0
-  LeavesLater rest more = (v : Where) (n : ℕ) → drop v.offset whole ≡ rest → IsRoom v n → (front : List Token) → LeavesAfter front n (more v)
+  LeavesLater rest more = (v : Where) (n : ℕ) → drop v.offset whole ≡ rest → IsCapacity v n → (front : List Token) → LeavesAfter front n (more v)
 
   leaves_token : (k : Kind) (s : Nesting) (bytes rest : List ℕ) (w : Where) (n : ℕ) (more : List Item) (t : Token) (ts : List Token)
-      → Stands bytes (TokenOf k s) rest
+      → IsLexicalElement bytes (TokenOf k s) rest
       → ((split more).tokens ≡ ts ++ others → (split more).last ≡ last → Past s n (λ m. Nests ts m (Left whole last (drop (length ts) more) others)))
       → LeavesAfter (t ∷ ts) n (item_at (TokenContent k bytes) w ∷ more)
   leaves_token k s bytes rest w n more t ts st h is ends =
       let first : token_of w.position k bytes ≡ t = cc in
       subst (λ u. IsLexeme u × Past (nesting_of u) n (λ m. Nests ts m (Left whole last (drop (length ts) more) others))) first
-      ((k, s, rest, refl, st), rw (stands-nesting st (place_of w.position)) (h (ap (drop 1) is) ends))
+      ((k, s, rest, refl, st), rw (element-nesting st (place_of w.position)) (h (ap (drop 1) is) ends))
 
   -- a lexical element, and what follows it
-  leaves_piece : (m : Meaning) (bytes rest : List ℕ) → Stands bytes m rest → (w : Where) (n : ℕ) → IsRoom w n → drop w.offset whole ≡ bytes ++ rest
+  leaves_piece : (m : Meaning) (bytes rest : List ℕ) → IsLexicalElement bytes m rest → (w : Where) (n : ℕ) → IsCapacity w n → drop w.offset whole ≡ bytes ++ rest
       → (more : Where → List Item) → LeavesLater rest more → (t : Token) (ts : List Token) → LeavesAfter (t ∷ ts) n (piece_then m more w bytes)
   leaves_piece (Ignored m) bytes rest st w n e there more h t ts =
       h (past_ignored m (length bytes) w) n (past_bytes w.offset whole bytes rest there) e (t ∷ ts)
@@ -144,36 +144,36 @@ module _ (whole stop : List ℕ) (last : Last) (others : List Token) where
   leaves_last w n t ts (b ∷ bs) is ends = absurd cc
 
   -- no token is taken
-  leaves_all : (ps : List Piece) (text : List ℕ) → IsCutInto text ps stop → (w : Where) (n : ℕ) → IsRoom w n → drop w.offset whole ≡ text
+  leaves_all : (ps : List Piece) (text : List ℕ) → IsTokenizedInto text ps stop → (w : Where) (n : ℕ) → IsCapacity w n → drop w.offset whole ≡ text
       → LeavesAfter [] n (items_of w ps stop)
-  leaves_all ps text cut w n e there is ends = record {
+  leaves_all ps text tokenized w n e there is ends = record {
     place = w;
     pieces = ps;
     rest = text;
     stop = stop;
-    cut = cut;
+    tokenized = tokenized;
     there = there;
-    room = e;
+    capacity = e;
     items = refl;
     tokens = is;
     ends = ends;
   }
 
-  leaves_items : (ps : List Piece) (text : List ℕ) → IsCutInto text ps stop → (w : Where) (n : ℕ) → IsRoom w n → drop w.offset whole ≡ text
+  leaves_items : (ps : List Piece) (text : List ℕ) → IsTokenizedInto text ps stop → (w : Where) (n : ℕ) → IsCapacity w n → drop w.offset whole ≡ text
       → (front : List Token) → LeavesAfter front n (items_of w ps stop)
   unfolding items_of
-  leaves_items [] text cut w n e there [] = leaves_all [] text cut w n e there
-  leaves_items [] text cut w n e there (t ∷ ts) = leaves_last w n t ts stop
-  leaves_items (q ∷ qs) text cut w n e there [] = leaves_all (q ∷ qs) text cut w n e there
-  leaves_items (q ∷ qs) text (rest, same, st, cut) w n e there (t ∷ ts) =
+  leaves_items [] text tokenized w n e there [] = leaves_all [] text tokenized w n e there
+  leaves_items [] text tokenized w n e there (t ∷ ts) = leaves_last w n t ts stop
+  leaves_items (q ∷ qs) text tokenized w n e there [] = leaves_all (q ∷ qs) text tokenized w n e there
+  leaves_items (q ∷ qs) text (rest, same, st, tokenized) w n e there (t ∷ ts) =
       leaves_piece q.meaning q.bytes rest st w n e (there ∙ same) (λ v. items_of v qs stop)
-      (λ v m at room. leaves_items qs rest cut v m room at) t ts
+      (λ v m at capacity. leaves_items qs rest tokenized v m capacity at) t ts
 
 -- at most 50 brackets are open among the first tokens of an input
 pub nests_before : (text : List ℕ) (items : List Item) → HasItems text items → (front others : List Token) → (split items).tokens ≡ front ++ others
     → Nests front 50 (Left text (split items).last (drop (length front) items) others)
-nests_before text items (ps, stop, cut, e) front others =
-    rw e (λ is. leaves_items text stop _ others ps text cut start 50 refl refl front is refl)
+nests_before text items (ps, stop, tokenized, e) front others =
+    rw e (λ is. leaves_items text stop _ others ps text tokenized start 50 refl refl front is refl)
 
 past_map : (s : Nesting) (n : ℕ) (P Q : ℕ → Type 0) → ((m : ℕ) → P m → Q m) → Past s n P → Past s n Q
 past_map Unchanged n P Q f h = f n h
@@ -190,13 +190,13 @@ nests text items has =
     nests_map (split items).tokens 50 _ Anything (λ m h. tt) (nests_before text items has (split items).tokens [] (sym (append-nil (split items).tokens)))
 
 -- the same for an input at a place where n brackets can be opened
-nests_from : (w : Where) (n : ℕ) (text : List ℕ) (items : List Item) → IsRoom w n → HasItemsFrom w text items → Nests (split items).tokens n Anything
-nests_from w n text items room (ps, stop, cut, e) =
+nests_from : (w : Where) (n : ℕ) (text : List ℕ) (items : List Item) → IsCapacity w n → HasItemsFrom w text items → Nests (split items).tokens n Anything
+nests_from w n text items capacity (ps, stop, tokenized, e) =
     let before : List ℕ = replicate w.offset 0 in
     let there : drop w.offset (before ++ text) ≡ text = drop_at before text w.offset (length-replicate w.offset 0) in
-    let cut_items = split (items_of w ps stop) in
-    let found : Nests cut_items.tokens n Anything = nests_map cut_items.tokens n _ Anything (λ m h. tt)
-    (leaves_items (before ++ text) stop cut_items.last [] ps text cut w n room there cut_items.tokens (sym (append-nil cut_items.tokens)) refl) in
+    let tokenized_items = split (items_of w ps stop) in
+    let found : Nests tokenized_items.tokens n Anything = nests_map tokenized_items.tokens n _ Anything (λ m h. tt)
+    (leaves_items (before ++ text) stop tokenized_items.last [] ps text tokenized w n capacity there tokenized_items.tokens (sym (append-nil tokenized_items.tokens)) refl) in
     subst (λ (is : List Item). Nests (split is).tokens n Anything) (sym e) found
 
 past_inside : (s : Nesting) (n : ℕ) (P : ℕ → Type 0) → Past s n P → (m : ℕ) × P m
@@ -291,7 +291,7 @@ past_class c t n P h m p =
     let (o, k) = and_parts (within_any c openings || apart_from c openings) _ h in
     subst (λ s. Past s n P) (ap₂ (λ (a b : Bool). cond a Opens (cond b Closes Unchanged)) (in_any-class c openings t o m) (in_any-class c closings t k m)) p
 
-name-bytes : {bytes : List ℕ} {k : Kind} {s : Nesting} {rest : List ℕ} → Stands bytes (TokenOf k s) rest → kind_number k ≡ kind_number Name → IsName bytes
+name-bytes : {bytes : List ℕ} {k : Kind} {s : Nesting} {rest : List ℕ} → IsLexicalElement bytes (TokenOf k s) rest → kind_number k ≡ kind_number Name → IsName bytes
 name-bytes (name_token first more stop) e = (first, more)
 name-bytes (punctuator_token is) e = absurd (omega (arith, e))
 name-bytes spread_token e = absurd (omega (arith, e))

@@ -10,8 +10,8 @@ use Rattle.graphql_core.specs.{ArePrintableMembers, AreConstant, HoldConstants, 
 use Rattle.graphql_core.specs.{IsPrintableDefault, value_brackets, items_brackets, members_brackets, type_brackets, argument_brackets, arguments_brackets}
 use Rattle.graphql_core.specs.{directive_brackets, directives_brackets, most, most_enclosed, each_of, optional_of, optional_list_of, enclosed_of, Class, Token}
 use Rattle.graphql_core.specs.{Items, split, IsDocument, IsDocumentOf, Language}
-use Rattle.graphql_core.proofs.values.BracketRoom.{HasRoom, room_nothing, room_leaf, room_both, room_first, room_second, room_stop, room_more, room_node}
-use Rattle.graphql_core.proofs.values.BracketRoom.{all_turns, has_room, openers, room_after, are_balanced}
+use Rattle.graphql_core.proofs.values.BracketCapacity.{HasCapacity, capacity_nothing, capacity_leaf, capacity_both, capacity_first, capacity_second, capacity_stop, capacity_more, capacity_node}
+use Rattle.graphql_core.proofs.values.BracketCapacity.{all_turns, has_capacity, openers, capacity_after, are_balanced}
 use Rattle.graphql_core.proofs.values.NestingDepth.{Nests, Anything, nests, nests_tree}
 use Rattle.std.specs.Cmp.Lexicographic.{slice_cmp}
 use Rattle.std.specs.List.{AllByRecursion}
@@ -34,35 +34,35 @@ each_of_both P Q (x ∷ xs) ((p, q), h) = let (ps, qs) = each_of_both P Q xs h i
 
 -- what a symbol derives can be printed, and so can a list of it
 module _ {A : Type 0} {g : Grammar} (k : ℕ) (f : ParseTree → A) (P : A → Type 0) (brackets : A → ℕ)
-    (one : (n : ℕ) (x : ParseTree) → HasRoom g n (Sym k) x → Within P brackets n (f x)) where
-  pub each_printable : {n : ℕ} {x : ParseTree} → HasRoom g n (Many (Sym k)) x → Within (AllByRecursion P) (most brackets) n (each_of f x)
+    (one : (n : ℕ) (x : ParseTree) → HasCapacity g n (Sym k) x → Within P brackets n (f x)) where
+  pub each_printable : {n : ℕ} {x : ParseTree} → HasCapacity g n (Many (Sym k)) x → Within (AllByRecursion P) (most brackets) n (each_of f x)
   each_printable {n} {x} r = all_within P brackets n (each_of f x) (all_turns (Within P brackets n) f (each_of f) refl (λ y z. refl) (one n) r)
 
-  pub some_printable : {n : ℕ} {x : ParseTree} → HasRoom g n (some_of (Sym k)) x → Within (AllByRecursion P) (most brackets) n (each_of f x)
-  some_printable {n} (room_both {x = x} r rs) = let (is, b) = one n x r in let (are, c) = each_printable rs in ((is, are), omega arith)
+  pub some_printable : {n : ℕ} {x : ParseTree} → HasCapacity g n (some_of (Sym k)) x → Within (AllByRecursion P) (most brackets) n (each_of f x)
+  some_printable {n} (capacity_both {x = x} r rs) = let (is, b) = one n x r in let (are, c) = each_printable rs in ((is, are), omega arith)
 
-  inside : (j : ℕ) {n : ℕ} {o c : Class} {x : ParseTree} → openers (One o) ≡ 1 → ((m : ℕ) → room_after (One o) m ≡ m - 1)
-      → HasRoom g n (Then (One o) (Then (some_of (Sym k)) (One c))) x → Within (AllByRecursion P) (most_enclosed brackets) n (enclosed_of f (Node j x))
-  inside j {n} opens after (room_both (room_leaf a l d) (room_both (room_both r rs) e)) =
-      let (are, b) = some_printable (room_both r rs) in
+  inside : (j : ℕ) {n : ℕ} {o c : Class} {x : ParseTree} → openers (One o) ≡ 1 → ((m : ℕ) → capacity_after (One o) m ≡ m - 1)
+      → HasCapacity g n (Then (One o) (Then (some_of (Sym k)) (One c))) x → Within (AllByRecursion P) (most_enclosed brackets) n (enclosed_of f (Node j x))
+  inside j {n} opens after (capacity_both (capacity_leaf a l d) (capacity_both (capacity_both r rs) e)) =
+      let (are, b) = some_printable (capacity_both r rs) in
       let left = after n in
       (are, omega arith)
 
   -- an optional list between an opener and a closer
   pub enclosed_printable : {j n : ℕ} {o c : Class} {x : ParseTree} → (row g j).rule ≡ Then (One o) (Then (some_of (Sym k)) (One c)) → openers (One o) ≡ 1
-      → ((m : ℕ) → room_after (One o) m ≡ m - 1) → HasRoom g n (optional (Sym j)) x
+      → ((m : ℕ) → capacity_after (One o) m ≡ m - 1) → HasCapacity g n (optional (Sym j)) x
       → Within (AllByRecursion P) (most_enclosed brackets) n (optional_list_of (enclosed_of f) x)
-  enclosed_printable {j} {n} rule opens after (room_first (room_node {x = x} r e)) =
-      inside j opens after (subst (λ (e : Expr). HasRoom g n e x) rule r)
-  enclosed_printable rule opens after (room_second room_nothing) = (tt, omega arith)
+  enclosed_printable {j} {n} rule opens after (capacity_first (capacity_node {x = x} r e)) =
+      inside j opens after (subst (λ (e : Expr). HasCapacity g n e x) rule r)
+  enclosed_printable rule opens after (capacity_second capacity_nothing) = (tt, omega arith)
 
 -- ---- optional parts
 
 pub part_printable : {A : Type 0} {g : Grammar} {n : ℕ} {e : Expr} {x : ParseTree} (f : ParseTree → A) (P : A → Type 0)
-    → ((y : ParseTree) → HasRoom g n e y → P (f y))
-    → HasRoom g n (optional e) x → IfSome (optional_of f x) P
-part_printable f P one (room_first {x = x} r) = one x r
-part_printable f P one (room_second room_nothing) = tt
+    → ((y : ParseTree) → HasCapacity g n e y → P (f y))
+    → HasCapacity g n (optional e) x → IfSome (optional_of f x) P
+part_printable f P one (capacity_first {x = x} r) = one x r
+part_printable f P one (capacity_second capacity_nothing) = tt
 
 -- ---- names with values
 
@@ -126,123 +126,123 @@ arguments_within n (p ∷ ps) h =
 
 -- ---- values
 
-plain_printable : {n : ℕ} {x : ParseTree} → HasRoom shared n (Sym plain_symbol) x → IsDefault n (plain_of x)
-plain_printable (room_node (room_first t) c) = ((tt, tt), omega arith)
-plain_printable (room_node (room_second (room_first t)) c) = ((tt, tt), omega arith)
-plain_printable (room_node (room_second (room_second (room_first t))) c) = ((tt, tt), omega arith)
-plain_printable (room_node (room_second (room_second (room_second (room_first (room_node t e))))) c) =
+plain_printable : {n : ℕ} {x : ParseTree} → HasCapacity shared n (Sym plain_symbol) x → IsDefault n (plain_of x)
+plain_printable (capacity_node (capacity_first t) c) = ((tt, tt), omega arith)
+plain_printable (capacity_node (capacity_second (capacity_first t)) c) = ((tt, tt), omega arith)
+plain_printable (capacity_node (capacity_second (capacity_second (capacity_first t))) c) = ((tt, tt), omega arith)
+plain_printable (capacity_node (capacity_second (capacity_second (capacity_second (capacity_first (capacity_node t e))))) c) =
     (((leaf_name refl t, (leaf_except (codes "true") refl t, (leaf_except (codes "false") refl t, (leaf_except (codes "null") refl t, tt)))), tt), omega arith)
-plain_printable (room_node (room_second (room_second (room_second (room_second (room_first t))))) c) = ((tt, tt), omega arith)
-plain_printable (room_node (room_second (room_second (room_second (room_second (room_second (room_first t)))))) c) = ((tt, tt), omega arith)
-plain_printable (room_node (room_second (room_second (room_second (room_second (room_second (room_second (room_first t))))))) c) = ((tt, tt), omega arith)
-plain_printable (room_node (room_second (room_second (room_second (room_second (room_second (room_second (room_second t))))))) c) = ((tt, tt), omega arith)
+plain_printable (capacity_node (capacity_second (capacity_second (capacity_second (capacity_second (capacity_first t))))) c) = ((tt, tt), omega arith)
+plain_printable (capacity_node (capacity_second (capacity_second (capacity_second (capacity_second (capacity_second (capacity_first t)))))) c) = ((tt, tt), omega arith)
+plain_printable (capacity_node (capacity_second (capacity_second (capacity_second (capacity_second (capacity_second (capacity_second (capacity_first t))))))) c) = ((tt, tt), omega arith)
+plain_printable (capacity_node (capacity_second (capacity_second (capacity_second (capacity_second (capacity_second (capacity_second (capacity_second t))))))) c) = ((tt, tt), omega arith)
 
 mutual
-  pub value_printable : {n : ℕ} {x : ParseTree} → HasRoom shared n (Sym value_symbol) x → IsValue n (value_of x)
-  value_printable (room_node (room_first (room_both d name)) c) = (leaf_name refl name, omega arith)
-  value_printable (room_node (room_second (room_first p)) c) = let (is, b) = plain_printable p in (is.0, b)
-  value_printable (room_node (room_second (room_second (room_first (room_both (room_leaf a l most) (room_both vs e))))) c) =
+  pub value_printable : {n : ℕ} {x : ParseTree} → HasCapacity shared n (Sym value_symbol) x → IsValue n (value_of x)
+  value_printable (capacity_node (capacity_first (capacity_both d name)) c) = (leaf_name refl name, omega arith)
+  value_printable (capacity_node (capacity_second (capacity_first p)) c) = let (is, b) = plain_printable p in (is.0, b)
+  value_printable (capacity_node (capacity_second (capacity_second (capacity_first (capacity_both (capacity_leaf a l most) (capacity_both vs e))))) c) =
       let (are, b) = items_printable vs in
       (are, omega arith)
-  value_printable {n} (room_node (room_second (room_second (room_second (room_both (room_leaf a l most) (room_both {x = ps} f e))))) c) =
+  value_printable {n} (capacity_node (capacity_second (capacity_second (capacity_second (capacity_both (capacity_leaf a l most) (capacity_both {x = ps} f e))))) c) =
       let (are, b) = object_printable (n - 1) (pairs_of ps) (pairs_printable f) in
       (are, omega arith)
 
-  items_printable : {n : ℕ} {x : ParseTree} → HasRoom shared n (Many (Sym value_symbol)) x
+  items_printable : {n : ℕ} {x : ParseTree} → HasCapacity shared n (Many (Sym value_symbol)) x
       → ArePrintableItems (values_of x) × (items_brackets (values_of x) ≤ n)
-  items_printable room_stop = (tt, omega arith)
-  items_printable (room_more f fs) =
+  items_printable capacity_stop = (tt, omega arith)
+  items_printable (capacity_more f fs) =
       let (is, b) = value_printable f in
       let (are, c) = items_printable fs in
       ((is, are), omega arith)
 
-  argument_printable : {n : ℕ} {x : ParseTree} → HasRoom shared n (Sym argument_symbol) x → IsPair (IsValue n) (argument_of x)
-  argument_printable (room_node (room_both name (room_both colon f)) c) = (leaf_name refl name, value_printable f)
+  argument_printable : {n : ℕ} {x : ParseTree} → HasCapacity shared n (Sym argument_symbol) x → IsPair (IsValue n) (argument_of x)
+  argument_printable (capacity_node (capacity_both name (capacity_both colon f)) c) = (leaf_name refl name, value_printable f)
 
-  pairs_printable : {n : ℕ} {x : ParseTree} → HasRoom shared n (Many (Sym argument_symbol)) x → AllByRecursion (IsPair (IsValue n)) (pairs_of x)
-  pairs_printable room_stop = tt
-  pairs_printable (room_more f fs) = (argument_printable f, pairs_printable fs)
+  pairs_printable : {n : ℕ} {x : ParseTree} → HasCapacity shared n (Many (Sym argument_symbol)) x → AllByRecursion (IsPair (IsValue n)) (pairs_of x)
+  pairs_printable capacity_stop = tt
+  pairs_printable (capacity_more f fs) = (argument_printable f, pairs_printable fs)
 
 -- the same for constants
 mutual
-  const_printable : {n : ℕ} {x : ParseTree} → HasRoom shared n (Sym const_symbol) x → IsDefault n (const_of x)
-  const_printable (room_node (room_first p) c) = plain_printable p
-  const_printable (room_node (room_second (room_first (room_both (room_leaf a l most) (room_both vs e)))) c) =
+  const_printable : {n : ℕ} {x : ParseTree} → HasCapacity shared n (Sym const_symbol) x → IsDefault n (const_of x)
+  const_printable (capacity_node (capacity_first p) c) = plain_printable p
+  const_printable (capacity_node (capacity_second (capacity_first (capacity_both (capacity_leaf a l most) (capacity_both vs e)))) c) =
       let (are, constant, b) = consts_printable vs in
       ((are, constant), omega arith)
-  const_printable {n} (room_node (room_second (room_second (room_both (room_leaf a l most) (room_both {x = ps} f e)))) c) =
+  const_printable {n} (capacity_node (capacity_second (capacity_second (capacity_both (capacity_leaf a l most) (capacity_both {x = ps} f e)))) c) =
       let (are, constant, b) = object_constant (n - 1) (const_pairs_of ps) (const_pairs_printable f) in
       ((are, constant), omega arith)
 
-  consts_printable : {n : ℕ} {x : ParseTree} → HasRoom shared n (Many (Sym const_symbol)) x → ArePrintableItems (consts_of x) × AreConstant (consts_of x)
+  consts_printable : {n : ℕ} {x : ParseTree} → HasCapacity shared n (Many (Sym const_symbol)) x → ArePrintableItems (consts_of x) × AreConstant (consts_of x)
       × (items_brackets (consts_of x) ≤ n)
-  consts_printable room_stop = (tt, tt, omega arith)
-  consts_printable (room_more f fs) =
+  consts_printable capacity_stop = (tt, tt, omega arith)
+  consts_printable (capacity_more f fs) =
       let (is, b) = const_printable f in
       let (are, constant, c) = consts_printable fs in
       ((is.0, are), (is.1, constant), omega arith)
 
-  const_pair_printable : {n : ℕ} {x : ParseTree} → HasRoom shared n (Sym const_pair_symbol) x → IsPair (IsDefault n) (const_pair_of x)
-  const_pair_printable (room_node (room_both name (room_both colon f)) c) = (leaf_name refl name, const_printable f)
+  const_pair_printable : {n : ℕ} {x : ParseTree} → HasCapacity shared n (Sym const_pair_symbol) x → IsPair (IsDefault n) (const_pair_of x)
+  const_pair_printable (capacity_node (capacity_both name (capacity_both colon f)) c) = (leaf_name refl name, const_printable f)
 
-  const_pairs_printable : {n : ℕ} {x : ParseTree} → HasRoom shared n (Many (Sym const_pair_symbol)) x → AllByRecursion (IsPair (IsDefault n)) (const_pairs_of x)
-  const_pairs_printable room_stop = tt
-  const_pairs_printable (room_more f fs) = (const_pair_printable f, const_pairs_printable fs)
+  const_pairs_printable : {n : ℕ} {x : ParseTree} → HasCapacity shared n (Many (Sym const_pair_symbol)) x → AllByRecursion (IsPair (IsDefault n)) (const_pairs_of x)
+  const_pairs_printable capacity_stop = tt
+  const_pairs_printable (capacity_more f fs) = (const_pair_printable f, const_pairs_printable fs)
 
-default_printable : {n : ℕ} {x : ParseTree} → HasRoom shared n (Sym default_symbol) x → IsDefault n (default_of x)
-default_printable (room_node (room_both e f) c) = const_printable f
+default_printable : {n : ℕ} {x : ParseTree} → HasCapacity shared n (Sym default_symbol) x → IsDefault n (default_of x)
+default_printable (capacity_node (capacity_both e f) c) = const_printable f
 
-pub optional_default_printable : {n : ℕ} {x : ParseTree} → HasRoom shared n (optional (Sym default_symbol)) x
+pub optional_default_printable : {n : ℕ} {x : ParseTree} → HasCapacity shared n (optional (Sym default_symbol)) x
     → IfSome (optional_default_of x) IsPrintableDefault × (option_map_or value_brackets (optional_default_of x) 0 ≤ n)
-optional_default_printable (room_first f) = default_printable f
-optional_default_printable (room_second room_nothing) = (tt, omega arith)
+optional_default_printable (capacity_first f) = default_printable f
+optional_default_printable (capacity_second capacity_nothing) = (tt, omega arith)
 
 -- ---- types
 
-optional_non_null_printable : {n m : ℕ} {x : ParseTree} (t : TypeTree) → HasRoom shared m (optional (punctuator (codes "!"))) x → AdmitsNull t
+optional_non_null_printable : {n m : ℕ} {x : ParseTree} (t : TypeTree) → HasCapacity shared m (optional (punctuator (codes "!"))) x → AdmitsNull t
     → Within IsPrintableType type_brackets n t
     → Within IsPrintableType type_brackets n (optional_non_null x t)
-optional_non_null_printable t (room_first f) a (is, b) = ((a, is), b)
-optional_non_null_printable t (room_second room_nothing) a h = h
+optional_non_null_printable t (capacity_first f) a (is, b) = ((a, is), b)
+optional_non_null_printable t (capacity_second capacity_nothing) a h = h
 
-pub type_printable : {n : ℕ} {x : ParseTree} → HasRoom shared n (Sym type_symbol) x → Within IsPrintableType type_brackets n (type_of x)
-type_printable (room_node (room_first (room_both {x = x} name m)) c) =
+pub type_printable : {n : ℕ} {x : ParseTree} → HasCapacity shared n (Sym type_symbol) x → Within IsPrintableType type_brackets n (type_of x)
+type_printable (capacity_node (capacity_first (capacity_both {x = x} name m)) c) =
     optional_non_null_printable (named (spelling_at x)) m tt (leaf_name refl name, omega arith)
-type_printable (room_node (room_second (room_both (room_leaf a l most) (room_both {x = x} f (room_both e m)))) c) =
+type_printable (capacity_node (capacity_second (capacity_both (capacity_leaf a l most) (capacity_both {x = x} f (capacity_both e m)))) c) =
     let (is, b) = type_printable f in
     optional_non_null_printable (list_of (type_of x)) m tt (is, omega arith)
 
 -- ---- arguments and directives
 
-pub arguments_printable : {n : ℕ} {x : ParseTree} → HasRoom shared n (Sym arguments_symbol) x
+pub arguments_printable : {n : ℕ} {x : ParseTree} → HasCapacity shared n (Sym arguments_symbol) x
     → Within (AllByRecursion IsPrintableArgument) arguments_brackets n (arguments_of x)
-arguments_printable {n} (room_node (room_both (room_leaf a l d) (room_both (room_both {x = x} {y = xs} f fs) e)) c) =
+arguments_printable {n} (capacity_node (capacity_both (capacity_leaf a l d) (capacity_both (capacity_both {x = x} {y = xs} f fs) e)) c) =
     let (are, b) = arguments_within (n - 1) (argument_of x ∷ pairs_of xs) (argument_printable f, pairs_printable fs) in
     (are, omega arith)
 
-pub optional_arguments_printable : {n : ℕ} {x : ParseTree} → HasRoom shared n (optional (Sym arguments_symbol)) x
+pub optional_arguments_printable : {n : ℕ} {x : ParseTree} → HasCapacity shared n (optional (Sym arguments_symbol)) x
     → Within (AllByRecursion IsPrintableArgument) arguments_brackets n (optional_arguments_of x)
-optional_arguments_printable (room_first f) = arguments_printable f
-optional_arguments_printable (room_second room_nothing) = (tt, omega arith)
+optional_arguments_printable (capacity_first f) = arguments_printable f
+optional_arguments_printable (capacity_second capacity_nothing) = (tt, omega arith)
 
-directive_printable : (n : ℕ) (x : ParseTree) → HasRoom shared n (Sym directive_symbol) x → Within IsPrintableDirective directive_brackets n (directive_of x)
-directive_printable n _ (room_node (room_both sign (room_both name arguments)) c) =
+directive_printable : (n : ℕ) (x : ParseTree) → HasCapacity shared n (Sym directive_symbol) x → Within IsPrintableDirective directive_brackets n (directive_of x)
+directive_printable n _ (capacity_node (capacity_both sign (capacity_both name arguments)) c) =
     let (are, b) = optional_arguments_printable arguments in
     ((leaf_name refl name, are), b)
 
-pub directives_printable : {n : ℕ} {x : ParseTree} → HasRoom shared n (Sym directives_symbol) x
+pub directives_printable : {n : ℕ} {x : ParseTree} → HasCapacity shared n (Sym directives_symbol) x
     → Within (AllByRecursion IsPrintableDirective) directives_brackets n (directives_of x)
-directives_printable (room_node fs c) = each_printable directive_symbol directive_of IsPrintableDirective directive_brackets directive_printable fs
+directives_printable (capacity_node fs c) = each_printable directive_symbol directive_of IsPrintableDirective directive_brackets directive_printable fs
 
 -- ---- documents
 
 -- a language whose brackets are balanced, if its documents of at most 50 nested brackets can be printed
 module _ {D : Type 0} (l : Language D) (balanced : are_balanced l.grammar.rows ≡ true) (P : D → Type 0)
-    (document : (x : ParseTree) → HasRoom l.grammar 50 (Sym l.document) x → P (l.means x)) where
+    (document : (x : ParseTree) → HasCapacity l.grammar 50 (Sym l.document) x → P (l.means x)) where
   pub tokens_printable : (i : Items) (d : D) → Nests i.tokens 50 Anything → IsDocument l i d → P d
   tokens_printable i d nested (x, (fits, is), end, e) =
-      let room = nests_tree x 50 Anything (subst (λ (ts : List Token). Nests ts 50 Anything) is nested) in
-      subst P (sym e) (document x (has_room l.grammar balanced fits 50 Anything room))
+      let capacity = nests_tree x 50 Anything (subst (λ (ts : List Token). Nests ts 50 Anything) is nested) in
+      subst P (sym e) (document x (has_capacity l.grammar balanced fits 50 Anything capacity))
 
   pub text_printable : (text : List ℕ) (d : D) → IsDocumentOf l text d → P d
   text_printable text d (items, has, document) = tokens_printable (split items) d (nests text items has) document

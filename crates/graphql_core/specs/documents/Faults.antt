@@ -2,13 +2,13 @@
 use mir.Syntax.{w64}
 use Rattle.std.specs.Prelude.{◌≡◌, ◌≤◌, ◌<◌, ℕ, zero, suc, List, [], ◌∷◌, ◌++◌, length, take, drop}
 use Rattle.std.specs.Int.RustNames.{FitsSigned}
-use Rattle.graphql_core.specs.grammar.{Begins, Ends, Sym, ParseTree, Node, leaves, peek, Refused, Reason, Unexpected}
-use Rattle.graphql_core.specs.grammar.{Improper, lax, IsFault, IsLeast, IsRefused, Token, Class}
+use Rattle.graphql_core.specs.grammar.{Begins, Ends, Sym, ParseTree, Node, leaves, peek, RejectedNode, Reason, Unexpected}
+use Rattle.graphql_core.specs.grammar.{Improper, lax, IsFault, IsLeast, IsRejected, Token, Class}
 use Rattle.graphql_core.specs.declared.tokenizer.token.Kind.TheVariants.{IntValue, FloatValue, StringValue}
 use Rattle.graphql_core.specs.lexical.{Item, HasItems}
 use Rattle.graphql_core.specs.sources.{CauseText, kind_number, int_out_of_range, malformed_float, bad_escape, Items}
-use Rattle.graphql_core.specs.sources.{Last, LastIsEnd, LastIsError, split, fault_by, FaultText, Tells, at, no_memory}
-use Rattle.graphql_core.specs.sources.{max_length, too_long, Refusal}
+use Rattle.graphql_core.specs.sources.{Last, LastIsEnd, LastIsError, split, fault_by, FaultText, IsOutOfMemoryOr, at, no_memory}
+use Rattle.graphql_core.specs.sources.{max_length, too_long, ParseFailure}
 use Rattle.graphql_core.specs.strings.{IsFloatLiteral, IsInQuotes}
 use Rattle.graphql_core.specs.values.{int_of}
 use Rattle.graphql_core.specs.documents.Languages.{Language}
@@ -52,9 +52,9 @@ module _ {D : Type 0} (l : Language D) where
   Says Unexpected i n f = f ≡ fault_by (from_item n i.tokens) i.last
   Says (Improper c) i n f =
       (t : Token) × (rest : List Token) × (from_item n i.tokens ≡ t ∷ rest) × l.lacks c t f.cause × (f.place ≡ t.place)
-  Says (Refused k) i n f =
-      (before us : List Token) × (x : ParseTree) × IsRefused l.grammar (Sym l.document) i.tokens k x before us
-      × (n ≡ length (before ++ leaves x)) × l.refuses (Node k x) f
+  Says (RejectedNode k) i n f =
+      (before us : List Token) × (x : ParseTree) × IsRejected l.grammar (Sym l.document) i.tokens k x before us
+      × (n ≡ length (before ++ leaves x)) × l.rejects (Node k x) f
 
   -- the items have an error at index `n`, which is reported as `f`
   abbrev pub IsFaultAt : Items → FaultText → ℕ → Type 0
@@ -71,8 +71,8 @@ module _ {D : Type 0} (l : Language D) where
       × Begins (lax l.grammar) (Sym l.document) front × Ends (lax l.grammar) (Sym l.document) front (peek others)
 
   -- The error is out of memory, or the first error of the items.
-  abbrev pub IsRefusalFor : Items → Refusal → Type 0
-  IsRefusalFor i r = Tells (IsFirstError i) r
+  abbrev pub IsErrorFor : Items → ParseFailure → Type 0
+  IsErrorFor i r = IsOutOfMemoryOr (IsFirstError i) r
 
   -- no two errors of the items have the same index
   abbrev pub HasOneFaultAt : Items → Type 0
@@ -94,10 +94,10 @@ module _ {D : Type 0} (l : Language D) where
   HasNoFault text d = IsDocumentOf l text d → (f : FaultText) (n : ℕ) → IsFaultOf text f n → ⊥
 
   -- Why an input is rejected: out of memory, longer than `max_length` bytes, or its first error.
-  pub data IsRefusalOf (text : List ℕ) : Refusal → Type 0 where
-    ran_out : IsRefusalOf text no_memory
-    past_bound : max_length < length text → IsRefusalOf text too_long
-    faulty : (f : FaultText) → length text ≤ max_length → IsFirstErrorOf text f → IsRefusalOf text (at f)
+  pub data IsErrorOf (text : List ℕ) : ParseFailure → Type 0 where
+    ran_out : IsErrorOf text no_memory
+    past_bound : max_length < length text → IsErrorOf text too_long
+    faulty : (f : FaultText) → length text ≤ max_length → IsFirstErrorOf text f → IsErrorOf text (at f)
 
   -- ---- the first error, if the language rejects no node
 

@@ -15,7 +15,7 @@ pub record Language (D : Type 0) : Type 1 where
   -- the cause for which a token is rejected as a leaf of this class
   pub lacks : Class → Token → CauseText → Type 0
   -- what is reported of a rejected node
-  pub refuses : ParseTree → FaultText → Type 0
+  pub rejects : ParseTree → FaultText → Type 0
   -- the factored rules for the same symbols, by which it is parsed, and how their parse trees become those as written
   pub factored_rows : List Row
   pub changes : List Change

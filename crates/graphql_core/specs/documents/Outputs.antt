@@ -1,8 +1,8 @@
 -- In any language: the output for what an input holds, or why there is no output.
 use Rattle.std.specs.Prelude.{◌≡◌, ◌≢◌, ◌<◌, ◌⊎◌, ℕ, List, length}
-use Rattle.graphql_core.specs.sources.{Refusal, no_memory, max_length}
+use Rattle.graphql_core.specs.sources.{ParseFailure, no_memory, max_length}
 use Rattle.graphql_core.specs.documents.Languages.{Language}
-use Rattle.graphql_core.specs.documents.Faults.{IsRefusalOf}
+use Rattle.graphql_core.specs.documents.Faults.{IsErrorOf}
 
 module _ {T : Type 0} (Has : List ℕ → T → Type 0) where
   -- `Has text t` holds for some `t`, and the output is `written t`
@@ -11,8 +11,8 @@ module _ {T : Type 0} (Has : List ℕ → T → Type 0) where
 
   -- The input is rejected with this error. If the error is not out of memory, the input is too long,
   -- or `Has text t` holds for no `t`.
-  abbrev pub HasNone : {D : Type 0} → Language D → List ℕ → Refusal → Type 0
-  HasNone l text e = IsRefusalOf l text e × (e ≢ no_memory → (max_length < length text) ⊎ ((t : T) → Has text t → ⊥))
+  abbrev pub HasNone : {D : Type 0} → Language D → List ℕ → ParseFailure → Type 0
+  HasNone l text e = IsErrorOf l text e × (e ≢ no_memory → (max_length < length text) ⊎ ((t : T) → Has text t → ⊥))
 
   -- `Has text t` holds for some `t` that is too wide
   abbrev pub IsWide : (T → Type 0) → List ℕ → Type 0

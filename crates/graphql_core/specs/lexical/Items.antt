@@ -12,7 +12,7 @@ use Rattle.graphql_core.specs.declared.tokenizer.piece.Nesting.{Nesting}
 use Rattle.graphql_core.specs.declared.tokenizer.piece.Nesting.TheVariants.{Unchanged, Opens, Closes}
 use Rattle.graphql_core.specs.lexical.BadTexts.{BadText, bad_character, bare_dot, bad_integer, bad_float}
 use Rattle.graphql_core.specs.lexical.BadTexts.{unterminated_string, unterminated_block_string, too_deep}
-use Rattle.graphql_core.specs.lexical.Lexical.{Meaning, Ignored, TokenOf, Piece, IsCutInto, is_in_run, begins_quotes}
+use Rattle.graphql_core.specs.lexical.Lexical.{Meaning, Ignored, TokenOf, Piece, IsTokenizedInto, is_in_run, begins_quotes}
 
 -- where an item is: its position, the bytes before it, and the opening and closing brackets before it
 pub record Where : Type 0 where
@@ -152,7 +152,7 @@ pub record EndsOnce (items : List Item) : Type 0 where
 -- these are the items of an input that begins at the place `w`
 abbrev pub HasItemsFrom : Where → List ℕ → List Item → Type 0
 HasItemsFrom w text items =
-    (pieces : List Piece) × (stop : List ℕ) × IsCutInto text pieces stop × (items ≡ items_of w pieces stop)
+    (pieces : List Piece) × (stop : List ℕ) × IsTokenizedInto text pieces stop × (items ≡ items_of w pieces stop)
 
 abbrev pub HasItems : List ℕ → List Item → Type 0
 HasItems text items = HasItemsFrom start text items

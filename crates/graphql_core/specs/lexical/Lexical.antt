@@ -140,49 +140,49 @@ pub data Meaning : Type 0 where
   Ignored : Move → Meaning
   TokenOf : Kind → Nesting → Meaning
 
--- `Stands bytes m rest`: the bytes are a lexical element of this meaning, if `rest` follows.
+-- `IsLexicalElement bytes m rest`: the bytes are a lexical element of this meaning, if `rest` follows.
 -- Ignored text is U+FEFF, white space, line ends, comments and commas (sections 2.1.1 to 2.1.5, 2.1.7).
-pub data Stands : List ℕ → Meaning → List ℕ → Type 0 where
-  ignored_tab : {rest : List ℕ} → Stands (9 ∷ []) (Ignored (Over 8)) rest
-  ignored_line_feed : {rest : List ℕ} → Stands (10 ∷ []) (Ignored Down) rest
-  ignored_carriage_return : {rest : List ℕ} → Stands (13 ∷ []) (Ignored Stay) rest
-  ignored_space : {rest : List ℕ} → Stands (32 ∷ []) (Ignored (Over 1)) rest
-  ignored_comma : {rest : List ℕ} → Stands (44 ∷ []) (Ignored (Over 1)) rest
-  ignored_byte_order_mark : {rest : List ℕ} → Stands (239 ∷ 187 ∷ 191 ∷ []) (Ignored Stay) rest
+pub data IsLexicalElement : List ℕ → Meaning → List ℕ → Type 0 where
+  ignored_tab : {rest : List ℕ} → IsLexicalElement (9 ∷ []) (Ignored (Over 8)) rest
+  ignored_line_feed : {rest : List ℕ} → IsLexicalElement (10 ∷ []) (Ignored Down) rest
+  ignored_carriage_return : {rest : List ℕ} → IsLexicalElement (13 ∷ []) (Ignored Stay) rest
+  ignored_space : {rest : List ℕ} → IsLexicalElement (32 ∷ []) (Ignored (Over 1)) rest
+  ignored_comma : {rest : List ℕ} → IsLexicalElement (44 ∷ []) (Ignored (Over 1)) rest
+  ignored_byte_order_mark : {rest : List ℕ} → IsLexicalElement (239 ∷ 187 ∷ 191 ∷ []) (Ignored Stay) rest
   -- a comment runs to the end of the input, or through its line end: LF, CR LF, or CR without LF after it
-  comment_at_end : (line : List ℕ) → list_all is_in_line line ≡ true → Stands (35 ∷ line) (Ignored Stay) []
+  comment_at_end : (line : List ℕ) → list_all is_in_line line ≡ true → IsLexicalElement (35 ∷ line) (Ignored Stay) []
   comment_feed : (line : List ℕ) {rest : List ℕ} → list_all is_in_line line ≡ true
-      → Stands (35 ∷ (line ++ 10 ∷ [])) (Ignored Down) rest
+      → IsLexicalElement (35 ∷ (line ++ 10 ∷ [])) (Ignored Down) rest
   comment_return_feed : (line : List ℕ) {rest : List ℕ} → list_all is_in_line line ≡ true
-      → Stands (35 ∷ (line ++ 13 ∷ 10 ∷ [])) (Ignored Down) rest
+      → IsLexicalElement (35 ∷ (line ++ 13 ∷ 10 ∷ [])) (Ignored Down) rest
   comment_return : (line : List ℕ) {rest : List ℕ} → list_all is_in_line line ≡ true → slice_index rest 0 ≢ 10
-      → Stands (35 ∷ (line ++ 13 ∷ [])) (Ignored Down) rest
+      → IsLexicalElement (35 ∷ (line ++ 13 ∷ [])) (Ignored Down) rest
   -- a name is as long as possible
   name_token : {b : ℕ} {bs rest : List ℕ} → is_name_start b ≡ true → list_all is_name_continue bs ≡ true
-      → is_name_continue (slice_index rest 0) ≡ false → Stands (b ∷ bs) (TokenOf Name Unchanged) rest
+      → is_name_continue (slice_index rest 0) ≡ false → IsLexicalElement (b ∷ bs) (TokenOf Name Unchanged) rest
   punctuator_token : {b : ℕ} {rest : List ℕ} → is_punctuator_byte b ≡ true
-      → Stands (b ∷ []) (TokenOf Punctuator (nesting_of b)) rest
-  spread_token : {rest : List ℕ} → Stands (46 ∷ 46 ∷ 46 ∷ []) (TokenOf Punctuator Unchanged) rest
+      → IsLexicalElement (b ∷ []) (TokenOf Punctuator (nesting_of b)) rest
+  spread_token : {rest : List ℕ} → IsLexicalElement (46 ∷ 46 ∷ 46 ∷ []) (TokenOf Punctuator Unchanged) rest
   -- a number takes its whole run
   integer_token : {run rest : List ℕ} → is_integer run ≡ true → EndsRun rest
-      → Stands run (TokenOf IntValue Unchanged) rest
-  float_token : {run rest : List ℕ} → IsFloat run → EndsRun rest → Stands run (TokenOf FloatValue Unchanged) rest
+      → IsLexicalElement run (TokenOf IntValue Unchanged) rest
+  float_token : {run rest : List ℕ} → IsFloat run → EndsRun rest → IsLexicalElement run (TokenOf FloatValue Unchanged) rest
   -- a string; an empty string only if no other quote follows
   string_token : (body : List ℕ) {rest : List ℕ} → IsStringBody body → (body ≡ [] → slice_index rest 0 ≢ 34)
-      → Stands (34 ∷ (body ++ 34 ∷ [])) (TokenOf StringValue Unchanged) rest
+      → IsLexicalElement (34 ∷ (body ++ 34 ∷ [])) (TokenOf StringValue Unchanged) rest
   block_string_token : {body rest : List ℕ} → ClosesBlock body
-      → Stands (34 ∷ 34 ∷ 34 ∷ body) (TokenOf BlockString Unchanged) rest
+      → IsLexicalElement (34 ∷ 34 ∷ 34 ∷ body) (TokenOf BlockString Unchanged) rest
 
 -- no lexical element begins this input
 abbrev pub BeginsNone : List ℕ → Type 0
-BeginsNone text = (bytes : List ℕ) (m : Meaning) (rest : List ℕ) → Stands bytes m rest → text ≢ bytes ++ rest
+BeginsNone text = (bytes : List ℕ) (m : Meaning) (rest : List ℕ) → IsLexicalElement bytes m rest → text ≢ bytes ++ rest
 
 pub record Piece : Type 0 where
   pub bytes : List ℕ
   pub meaning : Meaning
 
 -- the input is these lexical elements, and then `stop`, which no lexical element begins
-abbrev pub IsCutInto : List ℕ → List Piece → List ℕ → Type 0
-IsCutInto text [] stop = (text ≡ stop) × BeginsNone stop
-IsCutInto text (p ∷ ps) stop =
-    (rest : List ℕ) × (text ≡ p.bytes ++ rest) × Stands p.bytes p.meaning rest × IsCutInto rest ps stop
+abbrev pub IsTokenizedInto : List ℕ → List Piece → List ℕ → Type 0
+IsTokenizedInto text [] stop = (text ≡ stop) × BeginsNone stop
+IsTokenizedInto text (p ∷ ps) stop =
+    (rest : List ℕ) × (text ≡ p.bytes ++ rest) × IsLexicalElement p.bytes p.meaning rest × IsTokenizedInto rest ps stop

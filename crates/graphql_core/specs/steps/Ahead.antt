@@ -2,9 +2,9 @@
 use Rattle.std.specs.Prelude.{◌≡◌, ℕ, ◌+◌, ◌-◌, ◌*◌, ◌^◌, ◌<◌, ◌≤◌, Bool, not, nat_le, nat_lt, ◌==◌, ◌&&◌, ◌||◌}
 use Rattle.std.specs.Prelude.{if◌then◌else◌, List, ◌∷◌, length, map, slice_index, Option, Some, None, Result, Ok, Err}
 use Rattle.std.specs.Int.{w64, trailing_zeros}
-use Rattle.graphql_core.specs.steps.Front.{FrontElement, AtEnd, Skips, Takes, Stops, Cuts, is_flat}
+use Rattle.graphql_core.specs.steps.Front.{FrontElement, AtEnd, Skips, Takes, Stops, AreWholeCharacters, is_flat}
 use Rattle.graphql_core.specs.lexical.{steps_over, Where, Item, Content, item_at, TokenContent, NextItem}
-use Rattle.graphql_core.specs.steps.Cut.{items}
+use Rattle.graphql_core.specs.steps.ComputedItems.{items}
 use Rattle.graphql_core.specs.declared.position.Pos.{Pos}
 use Rattle.graphql_core.specs.declared.tokenizer.piece.Skipped.{Skipped}
 use Rattle.graphql_core.specs.declared.tokenizer.piece.Taken.{Taken}
@@ -57,7 +57,7 @@ ignored_front (Takes n k t) = None
 -- ignored text is one or more whole characters, and moves over at most 8 columns
 abbrev pub FitsIgnored : List ℕ → Option Skipped → Type 0
 FitsIgnored bytes None = Unit {0}
-FitsIgnored bytes (Some s) = Cuts bytes s.len × (steps_over s.by ≤ 8)
+FitsIgnored bytes (Some s) = AreWholeCharacters bytes s.len × (steps_over s.by ≤ 8)
 
 -- the token at the front, if there is one
 abbrev pub taken : FrontElement → Option Taken
@@ -74,7 +74,7 @@ without_flat (Some (t, f)) = Some t
 -- a token is one or more whole characters
 abbrev pub FitsTaken : List ℕ → Option Taken → Type 0
 FitsTaken bytes None = Unit {0}
-FitsTaken bytes (Some t) = Cuts bytes t.len
+FitsTaken bytes (Some t) = AreWholeCharacters bytes t.len
 
 abbrev pub is_line_feed : ℕ → Bool
 is_line_feed b = b == 10
@@ -96,8 +96,8 @@ abbrev pub is_gap : ℕ → Bool
 is_gap b = is_space_or_comma b || is_line_feed b
 
 -- the input at a position is so short that no line, column or offset overflows
-abbrev pub HasRoom : List ℕ → Pos → Type 0
-HasRoom text at = (length text < 2 ^ 62) × (at.line + length text < 2 ^ 62) × (at.column + 8 * length text < 2 ^ 63)
+abbrev pub CannotOverflow : List ℕ → Pos → Type 0
+CannotOverflow text at = (length text < 2 ^ 62) × (at.line + length text < 2 ^ 62) × (at.column + 8 * length text < 2 ^ 63)
 
 -- the place `n` bytes further, at the position `p`, with no bracket in between
 abbrev pub further : Pos → ℕ → Where → Where

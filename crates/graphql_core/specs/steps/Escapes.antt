@@ -1,14 +1,14 @@
 -- What comes after a backslash in a string.
 use Rattle.std.specs.Prelude.{◌≡◌, ◌≢◌, ℕ, List, ◌∷◌, ◌++◌}
 use Rattle.std.specs.Char.{encode_utf8}
-use Rattle.graphql_core.specs.strings.Strings.{StandsFor, NamesCharacter}
+use Rattle.graphql_core.specs.strings.Strings.{Denotes, NamesCharacter}
 
 -- `text` is an escape of the character `c`, without its backslash, and then `after`
 abbrev pub BeginsEscape : List ℕ → ℕ → List ℕ → Type 0
-BeginsEscape text c after = (unit : List ℕ) × StandsFor (92 ∷ unit) (encode_utf8 c) × (text ≡ unit ++ after)
+BeginsEscape text c after = (unit : List ℕ) × Denotes (92 ∷ unit) (encode_utf8 c) × (text ≡ unit ++ after)
 
 abbrev pub BeginsNoEscape : List ℕ → Type 0
-BeginsNoEscape text = (unit bytes after : List ℕ) → StandsFor (92 ∷ unit) bytes → text ≢ unit ++ after
+BeginsNoEscape text = (unit bytes after : List ℕ) → Denotes (92 ∷ unit) bytes → text ≢ unit ++ after
 
 -- `text` is four digits that name the character `c`, and then `after`
 abbrev pub BeginsName : List ℕ → ℕ → List ℕ → Type 0

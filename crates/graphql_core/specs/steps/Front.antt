@@ -80,14 +80,14 @@ front [] = AtEnd
 front (b ∷ bs) = front_of b bs
 
 -- the first `n` bytes are one or more whole characters
-abbrev pub Cuts : List ℕ → ℕ → Type 0
-Cuts bytes n = (0 < n) × (n ≤ length bytes) × IsCharBoundary bytes n
+abbrev pub AreWholeCharacters : List ℕ → ℕ → Type 0
+AreWholeCharacters bytes n = (0 < n) × (n ≤ length bytes) × IsCharBoundary bytes n
 
 abbrev pub FitsIn : List ℕ → FrontElement → Type 0
 FitsIn bytes AtEnd = length bytes ≡ 0
 FitsIn bytes Stops = 0 < length bytes
-FitsIn bytes (Skips n m) = Cuts bytes n × (steps_over m ≤ 8)
-FitsIn bytes (Takes n k t) = Cuts bytes n
+FitsIn bytes (Skips n m) = AreWholeCharacters bytes n × (steps_over m ≤ 8)
+FitsIn bytes (Takes n k t) = AreWholeCharacters bytes n
 
 -- the front is an item, not ignored text
 abbrev pub IsItem : FrontElement → Type 0

@@ -1,7 +1,7 @@
 -- What a language must show once, so that the theory of grammars holds for it.
 use Rattle.std.specs.Prelude.{◌≡◌, ℕ, true, false}
 use Rattle.graphql_core.specs.grammar.{unchecked, lax, row, Expr, Sym, ParseTree, Token, Class, AnyOf}
-use Rattle.graphql_core.specs.theory.{with_rows, EachIsFactored, RefusesTokens, LeavesAlone, Extends}
+use Rattle.graphql_core.specs.theory.{with_rows, EachIsFactored, RejectsTokens, LeavesAlone, Extends}
 use Rattle.graphql_core.specs.theory.{is_tight, is_ll1, is_productive, decides, has_samples}
 use Rattle.graphql_core.specs.sources.{CauseText, FaultText, unknown_location}
 use Rattle.graphql_core.specs.values.{is_good, shared, shared_symbols, location_class}
@@ -37,7 +37,7 @@ pub record IsReadable {D : Type 0} (l : Language D) : Type 0 where
   -- a name that is rejected as a location has the cause of an unknown location
   pub location : (t : Token) → l.grammar.good location_class t ≡ false → l.lacks location_class t unknown_location
   -- no node without tokens is rejected, and no whole document
-  pub refuses_tokens : RefusesTokens l.grammar
+  pub rejects_tokens : RejectsTokens l.grammar
   pub passes : (x : ParseTree) → l.grammar.check l.document x ≡ true
   -- a rejected node has one error
-  pub one_said : (node : ParseTree) (f g : FaultText) → l.refuses node f → l.refuses node g → f ≡ g
+  pub one_said : (node : ParseTree) (f g : FaultText) → l.rejects node f → l.rejects node g → f ≡ g

@@ -4,10 +4,10 @@ use Rattle.graphql_core.specs.grammar.Tokens.{Token}
 use Rattle.graphql_core.specs.declared.position.Pos.{Pos}
 use Rattle.graphql_core.specs.declared.tokenizer.token.Kind.{Kind}
 use Rattle.graphql_core.specs.declared.tokenizer.token.Bad.{Bad}
-use Rattle.graphql_core.specs.declared.tokenizer.token.Token.{Token as Cut}
+use Rattle.graphql_core.specs.declared.tokenizer.token.Token.{Token as LexedToken}
 use Rattle.graphql_core.specs.declared.tokenizer.piece.Nesting.{Nesting}
 use Rattle.graphql_core.specs.declared.helpers.source.Lexeme.{Lexeme}
-use Rattle.graphql_core.specs.lexical.{Stands, TokenOf, Item, Stream, asked_once, bad_text}
+use Rattle.graphql_core.specs.lexical.{IsLexicalElement, TokenOf, Item, Stream, asked_once, bad_text}
 use Rattle.graphql_core.specs.sources.{no_token, kind_number, Last, LastIsEnd, LastIsError, Spent, Items, place_of}
 use Rattle.graphql_core.specs.sources.{token_of, then_items, only_last, split}
 
@@ -47,11 +47,11 @@ Peeks bytes None i = i.tokens ≡ []
 -- the token is one of the lexical grammar
 abbrev pub IsLexeme : Token → Type 0
 IsLexeme t =
-    (k : Kind) × (s : Nesting) × (rest : List ℕ) × (t.kind ≡ kind_number k) × Stands t.spelling (TokenOf k s) rest
+    (k : Kind) × (s : Nesting) × (rest : List ℕ) × (t.kind ≡ kind_number k) × IsLexicalElement t.spelling (TokenOf k s) rest
 
 -- the items of a source, after a call of its stream returned this result and left the stream `s`; its `cuts` was `n`
 -- at first
-abbrev pub held : ℕ → Pos → Result (Option Cut) Bad → Stream → Items
+abbrev pub held : ℕ → Pos → Result (Option LexedToken) Bad → Stream → Items
 held n p (Ok (Some t)) s = then_items (token_of p t.kind t.value.now) (items_since n s)
 held n p (Ok None) s = spending (record { first_cuts = n; stream = s }) (only_last (LastIsEnd (place_of p)))
 held n p (Err b) s =

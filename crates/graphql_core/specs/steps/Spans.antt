@@ -65,7 +65,7 @@ pub record AreAppended {W : Type 0} (number : W → ℕ) (most : ℕ) (text : Li
   pub items : then_left number text spans (split old) ≡ then_left number text more (split new)
 
 -- the items `all` are the tokens of the spans, then the end or this lexical error at the position `end`
-pub record IsCut {W : Type 0} (number : W → ℕ) (text : List ℕ) (all : Items) (spans : List (Span W)) (end : Pos)
+pub record HasSpans {W : Type 0} (number : W → ℕ) (text : List ℕ) (all : Items) (spans : List (Span W)) (end : Pos)
     (bad : Option Bad) : Type 0 where
   pub marks : All (Marks number text) spans
   pub items : all ≡ span_items number text spans (last_at end bad)

@@ -12,22 +12,22 @@ pub record NamesCharacter (digits : List ℕ) (c : ℕ) : Type 0 where
   pub exists : IsScalar c
 
 -- A unit of a string, and the bytes that the unit stands for. A byte other than the backslash stands for itself.
-pub data StandsFor : List ℕ → List ℕ → Type 0 where
-  itself : (b : ℕ) → b ≢ 92 → StandsFor (b ∷ []) (b ∷ [])
-  escaped_quote : StandsFor (92 ∷ 34 ∷ []) (34 ∷ [])
-  escaped_backslash : StandsFor (92 ∷ 92 ∷ []) (92 ∷ [])
-  escaped_slash : StandsFor (92 ∷ 47 ∷ []) (47 ∷ [])
-  escaped_backspace : StandsFor (92 ∷ 98 ∷ []) (8 ∷ [])
-  escaped_form_feed : StandsFor (92 ∷ 102 ∷ []) (12 ∷ [])
-  escaped_line_feed : StandsFor (92 ∷ 110 ∷ []) (10 ∷ [])
-  escaped_carriage_return : StandsFor (92 ∷ 114 ∷ []) (13 ∷ [])
-  escaped_tab : StandsFor (92 ∷ 116 ∷ []) (9 ∷ [])
-  escaped_unicode : (digits : List ℕ) (c : ℕ) → NamesCharacter digits c → StandsFor (92 ∷ 117 ∷ digits) (encode_utf8 c)
+pub data Denotes : List ℕ → List ℕ → Type 0 where
+  itself : (b : ℕ) → b ≢ 92 → Denotes (b ∷ []) (b ∷ [])
+  escaped_quote : Denotes (92 ∷ 34 ∷ []) (34 ∷ [])
+  escaped_backslash : Denotes (92 ∷ 92 ∷ []) (92 ∷ [])
+  escaped_slash : Denotes (92 ∷ 47 ∷ []) (47 ∷ [])
+  escaped_backspace : Denotes (92 ∷ 98 ∷ []) (8 ∷ [])
+  escaped_form_feed : Denotes (92 ∷ 102 ∷ []) (12 ∷ [])
+  escaped_line_feed : Denotes (92 ∷ 110 ∷ []) (10 ∷ [])
+  escaped_carriage_return : Denotes (92 ∷ 114 ∷ []) (13 ∷ [])
+  escaped_tab : Denotes (92 ∷ 116 ∷ []) (9 ∷ [])
+  escaped_unicode : (digits : List ℕ) (c : ℕ) → NamesCharacter digits c → Denotes (92 ∷ 117 ∷ digits) (encode_utf8 c)
 
 -- The body of a string is a sequence of units. Its value is what the units stand for, concatenated.
 pub data HasValue : List ℕ → List ℕ → Type 0 where
   no_units : HasValue [] []
-  unit_then : (unit bytes body value : List ℕ) → StandsFor unit bytes → HasValue body value
+  unit_then : (unit bytes body value : List ℕ) → Denotes unit bytes → HasValue body value
       → HasValue (unit ++ body) (bytes ++ value)
 
 -- the body has no value, because some escape is invalid

@@ -4,7 +4,7 @@ use Rattle.graphql_core.specs.grammar.Tokens.{Token, Class, matches}
 use Rattle.graphql_core.specs.theory.Classes.{in_any}
 use Rattle.graphql_core.specs.grammar.Trees.{Expr, Empty, One, Then, Either, Many, Sym, ParseTree, Nothing, Leaf, Both}
 use Rattle.graphql_core.specs.grammar.Trees.{First, Second, Stop, More, Node, Row, Grammar, row, accepts, peek}
-use Rattle.graphql_core.specs.grammar.GrammarFaults.{Reason, Unexpected, Improper, Refused}
+use Rattle.graphql_core.specs.grammar.GrammarFaults.{Reason, Unexpected, Improper, RejectedNode}
 use Rattle.graphql_core.specs.theory.Tables.{nullable, first}
 
 -- the next token is of one of the classes
@@ -58,7 +58,7 @@ pub data Fails (g : Grammar) : Expr → List Token → Reason → List Token →
   fails_node : {k : ℕ} {ts us : List Token} {why : Reason} → Fails g (row g k).rule ts why us
       → Fails g (Sym k) ts why us
   fails_check : {k : ℕ} {ts us : List Token} {x : ParseTree} → Takes g (row g k).rule ts x us → g.check k x ≡ false
-      → Fails g (Sym k) ts (Refused k) us
+      → Fails g (Sym k) ts (RejectedNode k) us
 
 pub data Outcome : Type 0 where
   Done : (x : ParseTree) (after : List Token) → Outcome

@@ -6,7 +6,7 @@ use Rattle.graphql_core.specs.grammar.Trees.{More, Node, Grammar, row, leaves, p
 use Rattle.graphql_core.specs.grammar.Trees.{unchecked, lax}
 use Rattle.graphql_core.specs.theory.Tables.{cont}
 use Rattle.graphql_core.specs.theory.Reading.{sees, Takes, Fails, Outcome, ReadsTo}
-use Rattle.graphql_core.specs.grammar.GrammarFaults.{Reason, Unexpected, Improper, Refused}
+use Rattle.graphql_core.specs.grammar.GrammarFaults.{Reason, Unexpected, Improper, RejectedNode}
 
 -- the next token is of class `c`, but rejected as its leaf; the plain grammar (`lax g`) continues with the token
 pub record IsValue (g : Grammar) (e : Expr) (front : List Token) (c : Class) (us : List Token) : Type 0 where
@@ -18,7 +18,7 @@ pub record IsValue (g : Grammar) (e : Expr) (front : List Token) (c : Class) (us
   pub begins : Begins (lax g) e (front ++ token ∷ [])
 
 -- a parse tree of the symbol `k` ends after `front`, and fails its check
-pub record IsRefusedBefore (g : Grammar) (front : List Token) (k : ℕ) : Type 0 where
+pub record IsRejectedBefore (g : Grammar) (front : List Token) (k : ℕ) : Type 0 where
   pub tree : ParseTree
   pub before : List Token
   pub parts : front ≡ before ++ leaves tree
@@ -37,7 +37,7 @@ pub record IsFirstFaultFor (g : Grammar) (e : Expr) (ts : List Token) (why : Rea
 -- the same, and a node that is rejected is at the end of `front`
 pub record IsFirstStop (g : Grammar) (e : Expr) (ts : List Token) (why : Reason) (us : List Token) : Type 0 where
   pub fault : IsFirstFaultFor g e ts why us
-  pub refused : (k : ℕ) → why ≡ Refused k → IsRefusedBefore g fault.front k
+  pub rejected : (k : ℕ) → why ≡ RejectedNode k → IsRejectedBefore g fault.front k
 
 -- the reader returns what the grammar derives
 pub record IsExact (g : Grammar) (e : Expr) : Type 0 where
@@ -59,9 +59,9 @@ pub record IsExact (g : Grammar) (e : Expr) : Type 0 where
   -- a reported error is the first error
   pub earliest : (ts us : List Token) (why : Reason) → Fails g e ts why us → IsFirstStop g e ts why us
   -- the reader has at most one outcome
-  pub one_answer : (ts : List Token) (o p : Outcome) → ReadsTo g e ts o → ReadsTo g e ts p → o ≡ p
+  pub one_outcome : (ts : List Token) (o p : Outcome) → ReadsTo g e ts o → ReadsTo g e ts p → o ≡ p
   -- the reader always has an outcome
-  pub answers : (ts : List Token) → (o : Outcome) × ReadsTo g e ts o
+  pub has_outcome : (ts : List Token) → (o : Outcome) × ReadsTo g e ts o
 
 -- the class that each token of a parse tree matches
 abbrev pub classes : Grammar → Expr → ParseTree → List Class
@@ -80,5 +80,5 @@ ReadsAlike g e = (ts us vs : List Token) (x y : ParseTree) → Derives g e (ts +
     × (classes g e y ≡ cs ++ es) × (length cs ≡ length ts)
 
 -- no node without tokens is rejected
-abbrev pub RefusesTokens : Grammar → Type 0
-RefusesTokens g = (k : ℕ) (x : ParseTree) → Fits g (row g k).rule x → g.check k x ≡ false → leaves x ≡ [] → ⊥
+abbrev pub RejectsTokens : Grammar → Type 0
+RejectsTokens g = (k : ℕ) (x : ParseTree) → Fits g (row g k).rule x → g.check k x ≡ false → leaves x ≡ [] → ⊥

@@ -8,23 +8,23 @@ use Rattle.graphql_core.specs.theory.Factored.{Change, written, with_rows}
 use Rattle.graphql_core.specs.theory.Reading.{Outcome, Done, Fault, ReadsTo}
 use Rattle.graphql_core.specs.theory.Theorems.{IsValue}
 
-pub data Answer : Type 0 where
-  Tree : (x : ParseTree) → Answer
-  Rejected : (why : Reason) (place : ℕ) → Answer
+pub data WholeResult : Type 0 where
+  Tree : (x : ParseTree) → WholeResult
+  Rejected : (why : Reason) (place : ℕ) → WholeResult
 
 -- a parse tree only if no token is left; `place` is the number of tokens before the place where the reader stopped
-abbrev pub answer_of : Text → Outcome → Answer
-answer_of t (Fault why us) = Rejected why (length t.tokens - length us)
-answer_of t (Done x (u ∷ us)) = Rejected Unexpected (length t.tokens - length (u ∷ us))
-answer_of t (Done x []) = at_end t.ending
+abbrev pub result_of : Text → Outcome → WholeResult
+result_of t (Fault why us) = Rejected why (length t.tokens - length us)
+result_of t (Done x (u ∷ us)) = Rejected Unexpected (length t.tokens - length (u ∷ us))
+result_of t (Done x []) = at_end t.ending
   where
-    at_end : Ending → Answer
+    at_end : Ending → WholeResult
     at_end InputEnds = Tree x
     at_end InvalidToken = Rejected Unexpected (length t.tokens)
 
 -- the reader returns `a` for the input `t`
-abbrev pub Answers : Grammar → Expr → Text → Answer → Type 0
-Answers g e t a = (o : Outcome) × ReadsTo g e t.tokens o × (a ≡ answer_of t o)
+abbrev pub HasResult : Grammar → Expr → Text → WholeResult → Type 0
+HasResult g e t a = (o : Outcome) × ReadsTo g e t.tokens o × (a ≡ result_of t o)
 
 -- The first error, after `place` tokens: no derived list continues there.
 -- The plain grammar (`lax g`) continues with an improper token, but not with an unexpected one.
@@ -37,28 +37,28 @@ pub record IsGrammarFaultAt (g : Grammar) (e : Expr) (t : Text) (why : Reason) (
 
 pub record IsWhole (g : Grammar) (e : Expr) : Type 0 where
   -- a parse tree is returned exactly if the grammar derives it from the whole input
-  pub tree : (t : Text) (x : ParseTree) → Answers g e t (Tree x) ↔ (Derives g e t.tokens x × (t.ending ≡ InputEnds))
+  pub tree : (t : Text) (x : ParseTree) → HasResult g e t (Tree x) ↔ (Derives g e t.tokens x × (t.ending ≡ InputEnds))
   -- an error is at the first place where no derived list continues
-  pub wrong : (t : Text) (why : Reason) (place : ℕ) → Answers g e t (Rejected why place)
+  pub wrong : (t : Text) (why : Reason) (place : ℕ) → HasResult g e t (Rejected why place)
       → IsGrammarFaultAt g e t why place
   -- there is exactly one result
-  pub answer : (t : Text) → (a : Answer) × Answers g e t a
-  pub one : (t : Text) (a b : Answer) → Answers g e t a → Answers g e t b → a ≡ b
+  pub has_result : (t : Text) → (a : WholeResult) × HasResult g e t a
+  pub one : (t : Text) (a b : WholeResult) → HasResult g e t a → HasResult g e t b → a ≡ b
 
 -- the same for a written grammar `g` that is read by its factored rules
 pub record IsWholeFor (g : Grammar) (rs : List Row) (cs : List Change) (e : Expr) : Type 0 where
-  pub sound : (t : Text) (x : ParseTree) → Answers (with_rows g rs cs) e t (Tree x)
+  pub sound : (t : Text) (x : ParseTree) → HasResult (with_rows g rs cs) e t (Tree x)
       → Derives g e t.tokens (written cs x) × (t.ending ≡ InputEnds)
   pub complete : (t : Text) (y : ParseTree) → Derives g e t.tokens y → t.ending ≡ InputEnds
-      → (x : ParseTree) × Answers (with_rows g rs cs) e t (Tree x) × (written cs x ≡ y)
-  pub wrong : (t : Text) (why : Reason) (place : ℕ) → Answers (with_rows g rs cs) e t (Rejected why place)
+      → (x : ParseTree) × HasResult (with_rows g rs cs) e t (Tree x) × (written cs x ≡ y)
+  pub wrong : (t : Text) (why : Reason) (place : ℕ) → HasResult (with_rows g rs cs) e t (Rejected why place)
       → IsGrammarFaultAt g e t why place
 
 -- The reader of `h` returns the first error by `g`.
-pub record AnswersLeast (g h : Grammar) (e : Expr) : Type 0 where
+pub record ReturnsFirstError (g h : Grammar) (e : Expr) : Type 0 where
   -- a parse tree only if there is no error
-  pub tree : (t : Text) (x : ParseTree) → Answers h e t (Tree x) → (why : Reason) (n : ℕ) → IsFault g e t why n → ⊥
-  pub wrong : (t : Text) (why : Reason) (place : ℕ) → Answers h e t (Rejected why place)
+  pub tree : (t : Text) (x : ParseTree) → HasResult h e t (Tree x) → (why : Reason) (n : ℕ) → IsFault g e t why n → ⊥
+  pub wrong : (t : Text) (why : Reason) (place : ℕ) → HasResult h e t (Rejected why place)
       → IsLeast g e t why (index_of why place)
   -- no two errors have the same index
   pub one_index : (t : Text) (why other : Reason) (n : ℕ) → IsFault g e t why n → IsFault g e t other n → why ≡ other

@@ -2,7 +2,7 @@
 ghost use Rattle.std.specs.Prelude.{◌≡◌};
 ghost use Rattle.graphql_core.specs.sources.Causes.{cause_text};
 ghost use Rattle.graphql_core.specs.sources.Source.{place_of};
-ghost use Rattle.graphql_core.specs.sources.Refusals.{at, no_memory, too_long};
+ghost use Rattle.graphql_core.specs.sources.ParseFailures.{at, no_memory, too_long};
 
 use crate::common::cause::Cause;
 use crate::position::Pos;
@@ -27,9 +27,9 @@ impl Model for Fault {
     ghost use Rattle.std.specs.Prelude.{option_map};
     ghost use Rattle.graphql_core.specs.sources.Causes.{cause_text};
     ghost use Rattle.graphql_core.specs.sources.Source.{place_of};
-    ghost use Rattle.graphql_core.specs.sources.Refusals.{Refusal};
+    ghost use Rattle.graphql_core.specs.sources.ParseFailures.{ParseFailure};
 
-    ghost Value = { Refusal };
+    ghost Value = { ParseFailure };
 
     ghost view = { λ e. record { cause = cause_text e.cause; place = option_map place_of e.position } };
 }

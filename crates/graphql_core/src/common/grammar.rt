@@ -5,7 +5,7 @@ ghost use Rattle.std.specs.Prelude.{◌≡◌, ℕ, List, Option, length, true};
 ghost use Rattle.graphql_core.specs.{Expr, Empty, Then, Either, Sym, ParseTree, Row, Grammar, Fits, row_at, is_ll1};
 ghost use Rattle.graphql_core.specs.{is_tight, is_productive, decides, has_samples, unchecked, lax, IsExact};
 ghost use Rattle.graphql_core.specs.{ReadsAlike, IsWhole, IsWholeFor, Extends, TestsAlike, ReadsOn, LeavesAlone};
-ghost use Rattle.graphql_core.specs.{is_below, Growth, Grows, DerivesOn, AnswersLeast, RefusesTokens, Change};
+ghost use Rattle.graphql_core.specs.{is_below, Growth, Grows, DerivesOn, ReturnsFirstError, RejectsTokens, Change};
 ghost use Rattle.graphql_core.specs.{change_at, unchanged, out_of_head, in_second, out_of_prefix, out_of_symbols};
 ghost use Rattle.graphql_core.specs.{written, with_rows, IsFactored, AreFactored, EachIsFactored, IsExactFor};
 
@@ -35,12 +35,12 @@ pub fn factored()
 /// the one at the lowest token index. This holds for both kinds of grammar.
 pub fn least()
     ensures read { (g : Grammar) → is_ll1 g.rows ≡ true → is_tight g.rows ≡ true → is_productive g ≡ true
-        → RefusesTokens g → (e : Expr) → decides g.rows e ≡ true → has_samples g e ≡ true → AnswersLeast g g e }
+        → RejectsTokens g → (e : Expr) → decides g.rows e ≡ true → has_samples g e ≡ true → ReturnsFirstError g g e }
     ensures written { (g : Grammar) (rs : List Row) (cs : List Change) → EachIsFactored g rs cs
         → EachIsFactored (lax g) rs cs → is_ll1 rs ≡ true → is_tight rs ≡ true
-        → is_productive (with_rows g rs cs) ≡ true → RefusesTokens g
+        → is_productive (with_rows g rs cs) ≡ true → RejectsTokens g
         → (e : Expr) → decides rs e ≡ true → has_samples (with_rows g rs cs) e ≡ true
-        → AnswersLeast g (with_rows g rs cs) e }
+        → ReturnsFirstError g (with_rows g rs cs) e }
 {}
 
 /// Ways to factor a rule: no change, a head common to both alternatives, the second alternative, an optional prefix,

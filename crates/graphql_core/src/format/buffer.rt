@@ -10,7 +10,7 @@ use std::alloc::{AllocError, Global};
 use std::marker::Model;
 
 /// The least length to which the vector grows, except within a smaller capacity.
-const LEAST_ROOM: usize = 512;
+const LEAST_CAPACITY: usize = 512;
 
 /// The most bytes that are initialized ahead at once. They are few enough to be in the cache when output reaches them.
 const MOST_AHEAD: usize = 16384;
@@ -21,18 +21,18 @@ static ZEROS: [u8; 1024] = [0; 1024];
 /// stays within the capacity, so that its bytes are not moved early.
 #[cold]
 #[inline(never)]
-fn make_room(bytes: &mut Vec<u8>, end: usize) -> Result<(), AllocError>
+fn ensure_capacity(bytes: &mut Vec<u8>, end: usize) -> Result<(), AllocError>
     ensures front { take (vec_len bytes.old) bytes.new.items ≡ bytes.old.items }
-    ensures room { OnOk result (end ≤ vec_len bytes.new) }
+    ensures allowed { OnOk result (end ≤ vec_len bytes.new) }
 {
     let capacity = bytes.capacity();
-    let room = if end <= capacity {
+    let allowed = if end <= capacity {
         capacity
     } else {
         usize::MAX
     };
     let ahead = bytes.len().saturating_add(bytes.len().min(MOST_AHEAD));
-    let wanted = ahead.max(LEAST_ROOM).min(room).max(end);
+    let wanted = ahead.max(LEAST_CAPACITY).min(allowed).max(end);
     'blocks: while bytes.len() < wanted {
         let step = (wanted - bytes.len()).min(ZEROS.len());
         bytes.extend_from_slice(&ZEROS[..step])?;
@@ -66,7 +66,7 @@ impl Filled {
     {
         let end = self.len + more.len();
         if end > self.bytes.len() {
-            make_room(&mut self.bytes, end)?;
+            ensure_capacity(&mut self.bytes, end)?;
         }
         self.len = copy_text(self.bytes.as_mut_slice(), self.len, more);
         Ok(())
@@ -81,7 +81,7 @@ impl Filled {
             .saturating_add(second.len())
             .saturating_add(third.len());
         if end > self.bytes.len() {
-            make_room(&mut self.bytes, end)?;
+            ensure_capacity(&mut self.bytes, end)?;
         }
         let to = self.bytes.as_mut_slice();
         let after_first = copy_text(to, self.len, first);
@@ -99,7 +99,7 @@ impl Filled {
     {
         let most = self.len + more.len() + 1;
         if most > self.bytes.len() {
-            make_room(&mut self.bytes, most)?;
+            ensure_capacity(&mut self.bytes, most)?;
         }
         let start = copy_space(self.bytes.as_mut_slice(), self.len, is_spaced);
         self.len = copy_text(self.bytes.as_mut_slice(), start, more);

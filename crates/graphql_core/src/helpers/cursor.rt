@@ -7,14 +7,14 @@ ghost use Rattle.graphql_core.specs.sources.Causes.{no_token, cause_text};
 ghost use Rattle.graphql_core.specs.steps.Punctuators.{first_byte, front_byte};
 ghost use Rattle.graphql_core.specs.steps.Lookahead.{shown};
 ghost use Rattle.graphql_core.specs.declared.position.Pos.{Pos};
-ghost use Rattle.graphql_core.specs.sources.Refusals.{IsNextFault};
+ghost use Rattle.graphql_core.specs.sources.ParseFailures.{IsNextFault};
 ghost use Rattle.graphql_core.specs.sources.Source.{Items, LastIsError};
 ghost use Rattle.graphql_core.specs.steps.Sources.{after, held, items_of_stream, items_of_text};
 ghost use Rattle.graphql_core.specs.sources.Source.{then_items, token_of, only_last, place_of};
 
 use crate::common::{BadToken, Cause, Fault, Names, Text};
 use crate::helpers::punctuator::Punctuator;
-use crate::helpers::room::is_long;
+use crate::helpers::sizes::is_long;
 use crate::helpers::source::{Lexeme, TokenSource};
 use crate::position::Pos;
 use crate::tokenizer::{Bad, Kind, Token, TokenStream, is_name_start};
@@ -79,17 +79,17 @@ pub fn first_byte(text: &str) -> u8
 
 /// What a cursor keeps of a result of its stream.
 #[inline(always)]
-fn kept_of<'a>(answer: Result<Option<Token<'a>>, Bad<'a>>) -> (Token<'a>, Lookahead<'a>)
+fn kept_of<'a>(returned: Result<Option<Token<'a>>, Bad<'a>>) -> (Token<'a>, Lookahead<'a>)
     ensures items { (n : ℕ) (place : Pos) (left : Stream)
-        → shown n place result.0 result.1 left ≡ held n place answer.entry left }
+        → shown n place result.0 result.1 left ≡ held n place returned.entry left }
     ensures front { (n : ℕ) (place : Pos) (left : Stream)
-        → first_byte result.0.value.now ≡ front_byte (held n place answer.entry left).tokens }
+        → first_byte result.0.value.now ≡ front_byte (held n place returned.entry left).tokens }
 {
     let none = Token {
         kind: Kind::Punctuator,
         value: "",
     };
-    match answer {
+    match returned {
         Ok(Some(token)) => (token, Lookahead::Token),
         Ok(None) => (none, Lookahead::End),
         Err(bad) => (none, Lookahead::Error(bad)),

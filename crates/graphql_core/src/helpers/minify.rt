@@ -1,7 +1,7 @@
 //! The tokens of an input, with a space between two tokens that are not punctuators, and between a number and `...`.
 ghost use Rattle.std.specs.Prelude.{◌≡◌, ◌≤◌, ◌/◌, ℕ, List, IfOk, IfErr, length, string_bytes};
 ghost use Rattle.graphql_core.specs.{Token, kind_number, HasItems, Item, IsEnd, split, token_of, AreLexemes, spaced};
-ghost use Rattle.graphql_core.specs.{is_number, is_spaced, IsMinified, HasTokens, IsBadPlaceOf};
+ghost use Rattle.graphql_core.specs.{is_number, is_spaced, IsMinified, HasTokens, IsLexicalErrorOf};
 ghost use Rattle.graphql_core.specs.declared.position.Pos.{Pos};
 
 use crate::common::Fault;
@@ -35,7 +35,8 @@ fn spaced(alloc: Global, source: &str) -> Result<String, Fault>
     requires { length source.now ≤ usize.MAX / 16 }
     ensures minified { IfOk result (λ text. IsMinified source.now (string_bytes text)) }
     // An error is the lexical error that ends the tokens, or `OutOfMemory`.
-    ensures first_error { (items : List Item) → HasItems source.now items → IfErr result (IsBadPlaceOf (split items)) }
+    ensures first_error { (items : List Item) → HasItems source.now items
+        → IfErr result (IsLexicalErrorOf (split items)) }
 {
     let mut text = Buffer::with_capacity(alloc, source.len())?;
     let mut tokens = Tokens::new(source);
@@ -68,7 +69,7 @@ fn spaced(alloc: Global, source: &str) -> Result<String, Fault>
 #[inline(never)]
 fn fault_of_tokens(alloc: Global, mut tokens: Tokens<'_>) -> Fault
     requires { IsEnd (split tokens).last → ⊥ }
-    ensures { IsBadPlaceOf (split tokens.entry) result }
+    ensures { IsLexicalErrorOf (split tokens.entry) result }
 {
     'tokens: loop {
         match tokens.next_token() {
@@ -90,13 +91,14 @@ pub fn minified(alloc: Global, source: &str) -> Result<String, Fault>
     // Minifying is idempotent.
     ensures again { IfOk result (λ text. IsMinified (string_bytes text) (string_bytes text)) }
     // An error is the lexical error that ends the tokens, or `OutOfMemory`.
-    ensures first_error { (items : List Item) → HasItems source.now items → IfErr result (IsBadPlaceOf (split items)) }
+    ensures first_error { (items : List Item) → HasItems source.now items
+        → IfErr result (IsLexicalErrorOf (split items)) }
 {
     spaced(alloc, source)
 }
 
 /// Tokens joined with these spaces are tokenized into the same tokens.
-pub fn spaced_tokens_are_cut()
+pub fn spaced_tokens_are_tokenized()
     // Any valid tokens with at most 50 brackets open.
     ensures any { (ts : List Token) → AreLexemes 0 0 ts → HasTokens (spaced ts) ts }
     // Hence the tokens of an input up to its end or its first lexical error.

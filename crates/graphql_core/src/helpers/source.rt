@@ -27,7 +27,7 @@ pub trait TokenSource {
     ghost use Rattle.graphql_core.specs.sources.Source.{Items, place_of, place_next, IsAtEnd};
     ghost use Rattle.graphql_core.specs.steps.Sources.{Peeks, IsLexeme, after};
     ghost use Rattle.graphql_core.specs.steps.Sources.{lexeme_token};
-    ghost use Rattle.graphql_core.specs.sources.Refusals.{IsNextFault};
+    ghost use Rattle.graphql_core.specs.sources.ParseFailures.{IsNextFault};
 
     /// The type of a token's spelling.
     type Text: Copy;

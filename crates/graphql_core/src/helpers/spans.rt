@@ -5,12 +5,12 @@ ghost use Rattle.graphql_core.specs.lexical.Items.{HasItems, Item};
 ghost use Rattle.graphql_core.specs.sources.Source.{split};
 ghost use Rattle.graphql_core.specs.steps.Sources.{after};
 ghost use Rattle.graphql_core.specs.steps.Punctuators.{first_byte, front_byte};
-ghost use Rattle.graphql_core.specs.steps.Spans.{Marks, span_token, IsLeft, IsLast, AreAppended, IsCut};
+ghost use Rattle.graphql_core.specs.steps.Spans.{Marks, span_token, IsLeft, IsLast, AreAppended, HasSpans};
 
 use crate::common::{Cause, Fault, Names, Text};
 use crate::helpers::cursor::{fault_of_bad, fault_of_token, first_byte};
 use crate::helpers::punctuator::Punctuator;
-use crate::helpers::room::is_long;
+use crate::helpers::sizes::is_long;
 use crate::helpers::source::{Lexeme, TokenSource};
 use crate::helpers::span::{Span, Width};
 use crate::position::Pos;
@@ -114,11 +114,11 @@ fn append<'a, W: Width>(
 }
 
 /// Tokenizes the whole of `text`.
-fn cut<W: Width>(alloc: Global, text: &str) -> Result<Spans<'_, W>, AllocError>
+fn tokenize<W: Width>(alloc: Global, text: &str) -> Result<Spans<'_, W>, AllocError>
     requires small { length text.now ≤ usize.MAX / 16 }
     requires narrow { 8 * length text.now < W.most }
     ensures { (items : List Item) → HasItems text.now items
-        → IfOk result (λ s. IsCut W.number text.now (split items) s.tokens.items s.end s.bad) }
+        → IfOk result (λ s. HasSpans W.number text.now (split items) s.tokens.items s.end s.bad) }
 {
     let mut spans = Vec::with_capacity(alloc, text.len() / 4 + 1)?;
     let mut tokens = Tokens::new(text);
@@ -156,7 +156,7 @@ impl<'a, T: Text<'a>, W: Width> SpanSource<'a, T, W> {
         requires narrow { 8 * length text.now < W.most }
         ensures { (items : List Item) → HasItems text.now items → IfOk result (λ s. s ≡ split items) }
     {
-        let spans = cut(alloc, text)?;
+        let spans = tokenize(alloc, text)?;
         let front = front_of(spans.tokens.as_slice(), 0);
         Ok(SpanSource {
             text,

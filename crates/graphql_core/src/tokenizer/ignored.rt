@@ -1,7 +1,7 @@
 //! Skips ignored text (October 2021, section 2.1.7) at the start of the input.
 ghost use Rattle.std.specs.Prelude.{◌≡◌, ◌≤◌, IfSome, length, slice_index, true};
 ghost use Rattle.std.specs.List.{prefix_len};
-ghost use Rattle.graphql_core.specs.{front, IsItem, HasRoom, SkipsTo, HasContentsOf, is_space_or_comma, is_gap};
+ghost use Rattle.graphql_core.specs.{front, IsItem, CannotOverflow, SkipsTo, HasContentsOf, is_space_or_comma, is_gap};
 
 use crate::position::Pos;
 use crate::tokenizer::class::{can_begin_ignored, columns_of, is_line_feed, is_spacing};
@@ -12,7 +12,7 @@ use crate::tokenizer::place::{position_after_line, position_after_move, position
 #[cold]
 #[inline(never)]
 fn skip_elements(text: &str, at: Pos) -> (&str, Pos)
-    requires { HasRoom text.now at }
+    requires { CannotOverflow text.now at }
     ensures skips { SkipsTo text.now at result.0.now result.1 }
     ensures first { IsItem (front result.0.now) }
 {
@@ -31,7 +31,7 @@ fn skip_elements(text: &str, at: Pos) -> (&str, Pos)
 /// the results of its calls when it begins.
 #[inline(always)]
 fn skip_rare(text: &str, at: Pos) -> (&str, Pos)
-    requires { HasRoom text.now at }
+    requires { CannotOverflow text.now at }
     ensures skips { SkipsTo text.now at result.0.now result.1 }
     ensures first { IsItem (front result.0.now) }
 {
@@ -51,7 +51,7 @@ fn first_byte(text: &str) -> u8
 #[inline(always)]
 #[tactic(auto, using(crate::proofs::lexical::Tokens::first_bytes))]
 fn skip_common(text: &str, at: Pos) -> (&str, Pos, bool)
-    requires { HasRoom text.now at }
+    requires { CannotOverflow text.now at }
     ensures skips { SkipsTo text.now at result.0.now result.1 }
     ensures first { result.2 ≡ true → IsItem (front result.0.now) }
 {
@@ -130,7 +130,7 @@ pub fn after_gap(text: &str, gap: usize) -> Option<&str>
 /// Skips all ignored text.
 #[inline(always)]
 pub fn skip_ignored(text: &str, at: Pos) -> (&str, Pos)
-    requires { HasRoom text.now at }
+    requires { CannotOverflow text.now at }
     ensures skips { SkipsTo text.now at result.0.now result.1 }
     ensures first { IsItem (front result.0.now) }
 {
@@ -145,7 +145,7 @@ pub fn skip_ignored(text: &str, at: Pos) -> (&str, Pos)
 /// Skips all ignored text, which begins with this number of spaces and commas.
 #[inline(always)]
 pub fn skip_from_blanks(text: &str, blanks: usize, at: Pos) -> (&str, Pos)
-    requires room { HasRoom text.now at }
+    requires no_overflow { CannotOverflow text.now at }
     requires blanks { blanks ≤ prefix_len is_space_or_comma text.now }
     ensures skips { SkipsTo text.now at result.0.now result.1 }
     ensures first { IsItem (front result.0.now) }

@@ -10,7 +10,7 @@ use crate::tokenizer::run::{NoLineFeed, class_prefix_len};
 
 /// How many bytes the first line of a string has.
 #[inline(always)]
-#[tactic(auto, using(crate::proofs::strings::TextLines::line_cuts))]
+#[tactic(auto, using(crate::proofs::strings::TextLines::line_ends_whole))]
 pub fn line_len(text: &str) -> usize
     ensures len { result ≡ prefix_len is_no_line_feed text.now }
     ensures within { result ≤ length text.now }

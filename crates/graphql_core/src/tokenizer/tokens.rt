@@ -33,7 +33,7 @@ pub struct Tokens<'a> {
 impl<'a> Model for Tokens<'a> {
     ghost use Rattle.std.specs.Prelude.{ℕ, List, ◌+◌, ◌-◌, ◌*◌, ◌<◌, ◌≤◌, ◌^◌, length};
     ghost use Rattle.graphql_core.specs.steps.Front.{front, IsItem};
-    ghost use Rattle.graphql_core.specs.steps.Cut.{items};
+    ghost use Rattle.graphql_core.specs.steps.ComputedItems.{items};
     ghost use Rattle.graphql_core.specs.lexical.Items.{Item};
 
     ghost Value = { List Item };

@@ -7,7 +7,7 @@ use crate::{Cause, Pos};
 use std::alloc::{AllocError, Global};
 
 /// The position of an error, and whether a number is its cause.
-fn refusal(error: &ParseError) -> (Option<Pos>, bool) {
+fn error_summary(error: &ParseError) -> (Option<Pos>, bool) {
     let is_number = matches!(error.cause(), Cause::IntOutOfRange | Cause::MalformedFloat);
     (error.position(), is_number)
 }
@@ -43,8 +43,8 @@ fn error_of(alloc: Global, source: &str) -> Option<ParseError> {
 }
 
 /// The position of the error, and whether a number is its cause.
-fn refused_at(alloc: Global, source: &str) -> Option<(Option<Pos>, bool)> {
-    Some(refusal(&error_of(alloc, source)?))
+fn rejected_at(alloc: Global, source: &str) -> Option<(Option<Pos>, bool)> {
+    Some(error_summary(&error_of(alloc, source)?))
 }
 
 /// The position and the message of the error.
@@ -54,10 +54,10 @@ fn marked(alloc: Global, source: &str) -> Option<String> {
 }
 
 #[test]
-fn refusals_have_a_position_and_a_cause(rt: HostRuntime) {
+fn errors_have_a_position_and_a_cause(rt: HostRuntime) {
     let alloc = rt.alloc();
     let mut page = Page::new(alloc);
-    page.debug(&refused_at(alloc, "{ a(x: 1e+) }"));
+    page.debug(&rejected_at(alloc, "{ a(x: 1e+) }"));
     page.add(marked(alloc, "{ a"));
     page.debug(&count_names("{ a(b: 1) } ; c"));
     assert_eq!(rt;

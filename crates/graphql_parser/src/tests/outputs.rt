@@ -1,8 +1,8 @@
 //! Documents that are formatted, minified, parsed again, compared or hashed, as docs/CALLING.md and docs/MIGRATING.md
 //! show it.
 ghost use Rattle.std.specs.Prelude.{IfOk, IfSome, Err, ◌≡◌, ◌<◌, ◌⊎◌, length, string_bytes};
-ghost use Rattle.graphql_core.specs.{Refusal, no_memory, max_length, too_long};
-ghost use Rattle.graphql_query.specs.{DocumentTree, document_view, erase, IsDocumentOf, IsReadBack, layout};
+ghost use Rattle.graphql_core.specs.{ParseFailure, no_memory, max_length, too_long};
+ghost use Rattle.graphql_query.specs.{DocumentTree, document_view, erase, IsDocumentOf, ParsesBackTo, layout};
 ghost use Rattle.graphql_query.specs.{IsTooWide, IsPrintable};
 
 use crate::common::Names;
@@ -26,7 +26,7 @@ fn are_equal<N: Names>(
 }
 
 /// The formatted source; `None` if it cannot be parsed or formatted.
-fn laid_out(alloc: Global, source: &str, style: &Style) -> Option<String>
+fn formatted_source(alloc: Global, source: &str, style: &Style) -> Option<String>
     ensures { IfSome result
         (λ text. (d : DocumentTree) × IsDocumentOf source.now d × (string_bytes text ≡ layout style.now d)) }
 {
@@ -68,9 +68,9 @@ fn formatted_and_parsed<N: Names>(
         (λ d. erase (document_view string_bytes d) ≡ erase (document_view N.bytes document.now)) }
     ensures formatted { (e : FormatError) → result ≡ Err (Lost.Format e)
         → (e ≡ FormatError.OutOfMemory) ⊎ IsTooWide style.now (document_view N.bytes document.now) }
-    ensures parsed { (e : Refusal) → result ≡ Err (Lost.Parse e)
+    ensures parsed { (e : ParseFailure) → result ≡ Err (Lost.Parse e)
         → (e ≡ no_memory) ⊎ (max_length < length (layout style.now (document_view N.bytes document.now))) }
-    ensures minified { (e : Refusal) → result ≡ Err (Lost.Minify e) → ⊥ }
+    ensures minified { (e : ParseFailure) → result ≡ Err (Lost.Minify e) → ⊥ }
 {
     let text = document.format(alloc, style).map_err(Lost::Format)?;
     parse_query::<String>(alloc, &text).map_err(Lost::Parse)
@@ -81,8 +81,8 @@ fn formatted_and_parsed<N: Names>(
 fn minified_and_parsed(alloc: Global, source: String) -> Result<Document<'static, String>, Lost>
     ensures same { (d : DocumentTree) → IsDocumentOf (string_bytes source) d
         → IfOk result (λ e. erase (document_view string_bytes e) ≡ erase d) }
-    ensures no_other { IfOk result (λ d. IsReadBack (string_bytes source) (document_view string_bytes d)) }
-    ensures parsed { (d : DocumentTree) (e : Refusal) → IsDocumentOf (string_bytes source) d
+    ensures no_other { IfOk result (λ d. ParsesBackTo (string_bytes source) (document_view string_bytes d)) }
+    ensures parsed { (d : DocumentTree) (e : ParseFailure) → IsDocumentOf (string_bytes source) d
         → result ≡ Err (Lost.Parse e) → (e ≡ no_memory) ⊎ (e ≡ too_long) }
 {
     let text = minify_query(alloc, source).map_err(Lost::Minify)?;
@@ -114,8 +114,8 @@ fn shown_after_minifying(alloc: Global, source: &str) -> Option<String> {
 fn outputs_are_parsed_again(rt: HostRuntime) {
     let alloc = rt.alloc();
     let mut page = Page::new(alloc);
-    page.add(laid_out(alloc, "{ a(b: 1) }", &wide()));
-    page.add(laid_out(alloc, "{ a( }", &wide()));
+    page.add(formatted_source(alloc, "{ a(b: 1) }", &wide()));
+    page.add(formatted_source(alloc, "{ a( }", &wide()));
     page.add(minified(alloc, "{ a ( b : 1 ) }"));
     page.add(minified(alloc, "{ a; }"));
     page.add(shown_after_formatting(alloc, "query Q($a: Int = 1) { b(c: $a) }"));

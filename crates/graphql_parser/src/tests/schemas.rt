@@ -1,6 +1,6 @@
 //! Schemas: the callers that docs/CALLING.md and docs/MIGRATING.md show.
 ghost use Rattle.std.specs.Prelude.{IfOk, Err, ◌≡◌, ◌<◌, ◌⊎◌, length, string_bytes};
-ghost use Rattle.graphql_core.specs.{Refusal, no_memory, max_length};
+ghost use Rattle.graphql_core.specs.{ParseFailure, no_memory, max_length};
 ghost use Rattle.graphql_schema.specs.{layout, IsTooWide, IsPrintable, erase, document_view};
 
 use crate::common::Names;
@@ -48,7 +48,7 @@ fn formatted_and_parsed<N: Names>(
         (λ d. erase (document_view string_bytes d) ≡ erase (document_view N.bytes document.now)) }
     ensures formatted { (e : FormatError) → result ≡ Err (Lost.Format e)
         → (e ≡ FormatError.OutOfMemory) ⊎ IsTooWide style.now (document_view N.bytes document.now) }
-    ensures parsed { (e : Refusal) → result ≡ Err (Lost.Parse e)
+    ensures parsed { (e : ParseFailure) → result ≡ Err (Lost.Parse e)
         → (e ≡ no_memory) ⊎ (max_length < length (layout style.now (document_view N.bytes document.now))) }
 {
     let text = document.format(alloc, style).map_err(Lost::Format)?;

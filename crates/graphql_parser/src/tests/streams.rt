@@ -16,7 +16,7 @@ fn rest_of<'a>(alloc: Global, stream: &mut TokenStream<'a>) -> Option<query::Doc
     parse_query_from::<String>(alloc, stream).ok()
 }
 
-/// The same, where no bracket was closed that was not opened. After a document the stream stands at its end, and was
+/// The same, where no bracket was closed that was not opened. After a document the stream is at its end, and was
 /// asked for each item once.
 fn rest_read_once<'a>(
     alloc: Global,
@@ -55,7 +55,7 @@ fn read_past(alloc: Global, source: &str, tokens: usize) -> Option<(usize, usize
 }
 
 /// Whether the rest of a text past its first tokens is no document, if there are so many tokens.
-fn is_refused_past(alloc: Global, source: &str, tokens: usize) -> Option<bool> {
+fn is_rejected_past(alloc: Global, source: &str, tokens: usize) -> Option<bool> {
     let mut stream = past(source, tokens)?;
     Some(rest_of(alloc, &mut stream).is_none())
 }
@@ -64,7 +64,7 @@ fn is_refused_past(alloc: Global, source: &str, tokens: usize) -> Option<bool> {
 fn a_document_after_three_tokens(rt: HostRuntime) {
     let read = read_past(rt.alloc(), "{ a } { b }", 3);
     assert_eq!(rt; read, Some((1, 7, true)));
-    assert_eq!(rt; is_refused_past(rt.alloc(), "} { a }", 1), Some(true));
+    assert_eq!(rt; is_rejected_past(rt.alloc(), "} { a }", 1), Some(true));
 }
 
 /// How many definitions a source begins with, one after another.

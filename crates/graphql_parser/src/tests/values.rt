@@ -26,8 +26,8 @@ fn is_enum<'a, T: Text<'a>>(alloc: Global) -> Option<bool> {
     let value: Value<'a, T> = Value::Enum(T::make(alloc, "true").ok()?);
     let copy = value.clone().ok()?;
     let boolean: Value<'a, T> = Value::Boolean(true);
-    let are_told_apart = copy == value && copy != boolean;
-    Some(are_told_apart && are_shown_as_true(alloc, &copy, &boolean))
+    let are_distinct = copy == value && copy != boolean;
+    Some(are_distinct && are_shown_as_true(alloc, &copy, &boolean))
 }
 
 #[test]
@@ -42,29 +42,29 @@ fn enum_values_are_no_booleans(rt: HostRuntime) {
     assert_eq!(rt; are_enums, [Some(true); 4]);
 }
 
-/// A writer with room for so many texts.
+/// A writer that accepts this many texts.
 #[derive(Drop)]
 struct Narrow {
-    room: usize,
+    limit: usize,
 }
 
 impl fmt::Write for Narrow {
     fn write_str(&mut self, _text: &str) -> fmt::Result {
-        if self.room == 0 {
+        if self.limit == 0 {
             return Err(fmt::Error);
         }
-        self.room -= 1;
+        self.limit -= 1;
         Ok(())
     }
 }
 
 /// Whether `Display` fails wherever the writer fails, and only there; `None` if a hundred texts are too few.
 fn are_failures_handed_on(value: &Value<'_, &str>) -> Option<bool> {
-    let mut enough = Narrow { room: 100 };
+    let mut enough = Narrow { limit: 100 };
     enough.write(value).ok()?;
     let mut all_fail = true;
-    for room in 0..100_usize.abs_diff(enough.room) {
-        let mut narrow = Narrow { room };
+    for limit in 0..100_usize.abs_diff(enough.limit) {
+        let mut narrow = Narrow { limit };
         all_fail &= narrow.write(value).is_err();
     }
     Some(all_fail)

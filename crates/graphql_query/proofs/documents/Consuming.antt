@@ -14,28 +14,28 @@ module _ (text : List ℕ) (i j : Items) (d : DefinitionTree) (p : Pos) (are : A
   abbrev parse_tree : ParseTree
   parse_tree = written changes h.0
 
-  abbrev cut : List Item
-  cut = items start text
+  abbrev tokenized : List Item
+  tokenized = items start text
 
-  begins_here : BeginsWith (split cut).tokens parse_tree j.tokens
-  begins_here = begins (split cut).tokens j.tokens h.0
-      (subst (λ (k : Items). Takes reading (Sym definition_symbol) k.tokens h.0 j.tokens) (are cut (has_items text)).1 h.1.0)
+  begins_here : BeginsWith (split tokenized).tokens parse_tree j.tokens
+  begins_here = begins (split tokenized).tokens j.tokens h.0
+      (subst (λ (k : Items). Takes reading (Sym definition_symbol) k.tokens h.0 j.tokens) (are tokenized (has_items text)).1 h.1.0)
 
-  within : length (leaves parse_tree) < length cut
-  within = omega (arith, more_items text cut (has_items text), ap length begins_here.1, length-append (leaves parse_tree) j.tokens)
+  within : length (leaves parse_tree) < length tokenized
+  within = omega (arith, more_items text tokenized (has_items text), ap length begins_here.1, length-append (leaves parse_tree) j.tokens)
 
-  position : (next_place (drop (length (leaves parse_tree)) cut)).position ≡ p
+  position : (next_place (drop (length (leaves parse_tree)) tokenized)).position ≡ p
   position =
-      let last : j.last ≡ (split cut).last = ap (λ (k : Last × Spent). k.0) h.1.1 ∙ ap (λ (k : Items). k.last) (are cut (has_items text)).1 in
+      let last : j.last ≡ (split tokenized).last = ap (λ (k : Last × Spent). k.0) h.1.1 ∙ ap (λ (k : Items). k.last) (are tokenized (has_items text)).1 in
       sym (one_position p _ (at ∙ ap (λ (l : Last). place_next (tokens_then j.tokens l)) last
-      ∙ place_after cut (leaves parse_tree) j.tokens begins_here.1 within))
+      ∙ place_after tokenized (leaves parse_tree) j.tokens begins_here.1 within))
 
   pub found : (rest : List ℕ)
       → ((is : List Item) (n : ℕ) → HasItems text is → n < length is → (next_place (drop n is)).position ≡ p → rest ≡ text_after n is text)
       → IsFirstDefinition text (d, rest)
   found rest f =
       let has = has_items text in
-      (cut, has, parse_tree, j.tokens, begins_here, h.2, f cut (length (leaves parse_tree)) has within position)
+      (tokenized, has, parse_tree, j.tokens, begins_here, h.2, f tokenized (length (leaves parse_tree)) has within position)
 
 -- ---- uniqueness
 

@@ -1,7 +1,7 @@
 -- The first definition of a list of tokens is what the reader of definitions consumes.
 use Rattle.std.proofs.Common.{◌≡◌, false, List, [], ◌∷◌, ◌++◌, refl, sym, ap, subst, ◌∙◌}
 use Rattle.graphql_core.specs.{cont, fails_check, Token, Sym, ParseTree, leaves, peek, row, written, sees, Takes, Reason, Fails, fails_node, StopsFor}
-use Rattle.graphql_core.specs.{no_memory, IsFaultFor, IsRefusalFor, reason_of, Refusal, Items, IsReadable}
+use Rattle.graphql_core.specs.{no_memory, IsFaultFor, IsErrorFor, reason_of, ParseFailure, Items, IsReadable}
 use Rattle.graphql_core.specs.declared.helpers.read_error.ReadError.{ReadError}
 use Rattle.graphql_core.specs.declared.helpers.read_error.ReadError.TheVariants.{Memory, Integer, Float, Escape, Location, Item}
 use Rattle.graphql_core.proofs.{take-or_fail, exact_lax, least_stop, exact, halts}
@@ -27,7 +27,7 @@ readable_one = record {
   lacks = readable.lacks;
   location = readable.location;
   one_cause = readable.one_cause;
-  refuses_tokens = readable.refuses_tokens;
+  rejects_tokens = readable.rejects_tokens;
   passes = λ x. refl;
   one_said = λ node f g h w. absurd h;
 }
@@ -38,11 +38,11 @@ readable_one = record {
 rule_fails : {ts us : List Token} {why : Reason} → Fails reading (Sym definition_symbol) ts why us
     → Fails reading (row reading definition_symbol).rule ts why us
 rule_fails (fails_node h) = h
-rule_fails (fails_check h refused) = absurd cc
+rule_fails (fails_check h rejected) = absurd cc
 
-pub least_refusal : (i j : Items) (s : ReadError) (e : Refusal) → StopsFor reading (Sym definition_symbol) i j (reason_of s) → IsFaultFor s j e
-    → IsRefusalFor one_definition i e
-least_refusal i j s e h = least_stop one_definition readable_one i j s e (halts j (reason_of s) refl (λ why. rule_fails) h)
+pub least_error : (i j : Items) (s : ReadError) (e : ParseFailure) → StopsFor reading (Sym definition_symbol) i j (reason_of s) → IsFaultFor s j e
+    → IsErrorFor one_definition i e
+least_error i j s e h = least_stop one_definition readable_one i j s e (halts j (reason_of s) refl (λ why. rule_fails) h)
 
 -- ---- what begins with a definition
 
@@ -80,11 +80,11 @@ none_begins_another x y us vs fits other_fits parts =
 none_fails : (ts us vs : List Token) (x : ParseTree) (why : Reason) → BeginsWith ts x vs → Fails reading (Sym definition_symbol) ts why us → ⊥
 none_fails ts us vs x why h fails = let (y, takes, is) = taken ts vs x h in take-or_fail reading takes fails
 
-pub memory_only : (i j : Items) (s : ReadError) (e : Refusal) (x : ParseTree) (others : List Token)
+pub out_of_memory_only : (i j : Items) (s : ReadError) (e : ParseFailure) (x : ParseTree) (others : List Token)
     → StopsFor reading (Sym definition_symbol) i j (reason_of s) → IsFaultFor s j e → BeginsWith i.tokens x others → e ≡ no_memory
-memory_only i j Memory e x others h f k = f
-memory_only i j Item e x others h f k = absurd (none_fails i.tokens j.tokens others x _ k h.0)
-memory_only i j Integer e x others h f k = absurd (none_fails i.tokens j.tokens others x _ k h.0)
-memory_only i j Float e x others h f k = absurd (none_fails i.tokens j.tokens others x _ k h.0)
-memory_only i j Escape e x others h f k = absurd (none_fails i.tokens j.tokens others x _ k h.0)
-memory_only i j Location e x others h f k = absurd (none_fails i.tokens j.tokens others x _ k h.0)
+out_of_memory_only i j Memory e x others h f k = f
+out_of_memory_only i j Item e x others h f k = absurd (none_fails i.tokens j.tokens others x _ k h.0)
+out_of_memory_only i j Integer e x others h f k = absurd (none_fails i.tokens j.tokens others x _ k h.0)
+out_of_memory_only i j Float e x others h f k = absurd (none_fails i.tokens j.tokens others x _ k h.0)
+out_of_memory_only i j Escape e x others h f k = absurd (none_fails i.tokens j.tokens others x _ k h.0)
+out_of_memory_only i j Location e x others h f k = absurd (none_fails i.tokens j.tokens others x _ k h.0)

@@ -3,7 +3,7 @@
 use Rattle.std.proofs.Common.{◌≡◌, [], map, Some, refl, ap}
 use Rattle.graphql_core.specs.{Place, leaves, no_place, first_place, place_at, optional_list_of, enclosed_of, spelling_at}
 use Rattle.graphql_core.proofs.{SameTrees, same_both, same_first, same_second, same_more, same_node, left_tree, right_tree, IsSame, ByValues, DependsOnValues}
-use Rattle.graphql_core.proofs.{RefusesAlike, accepted_same, valueless_alike, optional_same, optional_list_same, each_alike, enclosed_alike, spelling_same}
+use Rattle.graphql_core.proofs.{RejectsAlike, accepted_same, valueless_alike, optional_same, optional_list_same, each_alike, enclosed_alike, spelling_same}
 use Rattle.graphql_core.proofs.{type_same, optional_default_same, optional_arguments_same, directives_same}
 use Rattle.graphql_query.specs.{spread, more, OperationKind, query_kind, mutation_kind, subscription_kind, with_body, short, operation, fragment}
 use Rattle.graphql_query.specs.{erase_selection, erase_selection_set, erase_selections, erase_variable_definition, erase_operation, erase_fragment_definition}
@@ -136,5 +136,5 @@ document_same _ = refl
 pub by_values : DependsOnValues queries
 by_values = record { accepts = accepted_same; checks = λ k s. refl; means = document_same; blocks = refl }
 
-pub refuses_alike : RefusesAlike queries
-refuses_alike = record { lacks = λ c. valueless_alike; refuses = λ k s f h. absurd h }
+pub rejects_alike : RejectsAlike queries
+rejects_alike = record { lacks = λ c. valueless_alike; rejects = λ k s f h. absurd h }

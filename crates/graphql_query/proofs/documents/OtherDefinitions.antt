@@ -20,7 +20,7 @@ others_after : (text : List ℕ) (is : List Item) (x more : ParseTree) → HasIt
     → HasDefinitions (text_after (length (leaves x)) is text) (each_of definition_of more)
 others_after text is x more has fits others parts end =
     let l = after_definition text is x (leaves more) has fits parts in
-    let own = subst (OfItsOwn text) (sym l.items) (own_text l.pieces l.rest l.stop text l.place l.cut l.there (omega (arith, l.room))) in
+    let own = subst (OfItsOwn text) (sym l.items) (own_text l.pieces l.rest l.stop text l.place l.tokenized l.there (omega (arith, l.capacity))) in
     let ends = subst IsEnd (sym l.ends) end in
     by more others l.tokens own ends
   where

@@ -1,7 +1,7 @@
 -- Before any other rest, the source begins with the same tokens at the same positions.
 use Rattle.std.proofs.Common.{◌≡◌, ℕ, ◌<◌, true, ◌==◌, List, [], ◌∷◌, ◌++◌, length, drop, refl, sym, ap, subst, ◌∙◌, arith, length-append, length-drop}
 use Rattle.std.proofs.Common.{append_assoc, eqb-true, codes}
-use Rattle.graphql_core.specs.{items_of, IsCutInto, Token, Spelled, matches, Sym, ParseTree, leaves, accepts, Fits, fits_leaf, fits_both, fits_first}
+use Rattle.graphql_core.specs.{items_of, IsTokenizedInto, Token, Spelled, matches, Sym, ParseTree, leaves, accepts, Fits, fits_leaf, fits_both, fits_first}
 use Rattle.graphql_core.specs.{fits_second, fits_node, Item, HasItems, start, next_place, kind_number, split}
 use Rattle.graphql_core.specs.declared.tokenizer.token.Kind.TheVariants.{Punctuator}
 use Rattle.graphql_core.proofs.{TokensKept, EndsInMark, ends_after, tokens_kept, prefix}
@@ -45,9 +45,9 @@ ends_definition x (fits_node (fits_second {y = f} h) check) = ends_fragment f h
 -- the tokens of the first definition do not depend on the rest
 kept_first : (text : List ℕ) (is : List Item) (x : ParseTree) (us : List Token) → HasItems text is → BeginsWith (split is).tokens x us
     → TokensKept start text is (leaves x)
-kept_first text is x us (ps, stop, cut, e) (fits, parts) =
+kept_first text is x us (ps, stop, tokenized, e) (fits, parts) =
     subst (λ (l : List Item). TokensKept start text l (leaves x)) (sym e)
-    (tokens_kept ps text stop start (leaves x) us cut (ap (λ (l : List Item). (split l).tokens) (sym e) ∙ parts) (ends_definition x fits))
+    (tokens_kept ps text stop start (leaves x) us tokenized (ap (λ (l : List Item). (split l).tokens) (sym e) ∙ parts) (ends_definition x fits))
 
 -- the rest is shorter than the source
 pub shorter : (text : List ℕ) (d : DefinitionTree) (rest : List ℕ) → IsFirstDefinition text (d, rest) → length rest < length text
@@ -72,11 +72,11 @@ other_tokens text x rest taken other (is, has, us, begins, after) whole =
       ap length k.parts,
       length-append k.a k.b,
     )) in
-    let (qs, end, other_cut, vs, tokens) = k.again (c ++ other) in
+    let (qs, end, other_tokenized, vs, tokens) = k.again (c ++ other) in
     let same : k.a ++ (c ++ other) ≡ taken ++ other = sym (append_assoc k.a c other) ∙ ap (λ (l : List ℕ). l ++ other) (sym front) in
     let items = items_of start qs end in (
       text_after (length (leaves x)) items (taken ++ other),
-      (items, (qs, end, subst (λ (l : List ℕ). IsCutInto l qs end) same other_cut, refl), vs, (begins.0, tokens), refl),
+      (items, (qs, end, subst (λ (l : List ℕ). IsTokenizedInto l qs end) same other_tokenized, refl), vs, (begins.0, tokens), refl),
     )
 
 pub other_rest : (text : List ℕ) (d : DefinitionTree) (rest taken other : List ℕ) → IsFirstDefinition text (d, rest) → text ≡ taken ++ rest

@@ -6,7 +6,7 @@ use Rattle.std.proofs.lemmas.List.{at_drop_more, nil_from_length}
 use Rattle.graphql_core.specs.{name_part, punctuator_part, text_of, place_of, StyleOptions, Part, gap, arguments_view, directives_view, Weights}
 use Rattle.graphql_core.proofs.{text_append}
 use Rattle.graphql_query.specs.{more, field, inline, set, type_condition_view, selection_view, selections_view, field_view, inline_fragment_view}
-use Rattle.graphql_query.specs.{selection_set_view, IsLawfulSet, selected_layout, selection_set_layout, selected_depth, selection_set_depth}
+use Rattle.graphql_query.specs.{selection_set_view, IsWellFormedSet, selected_layout, selection_set_layout, selected_depth, selection_set_depth}
 use Rattle.graphql_query.specs.declared.tree.Selection.{Selection}
 use Rattle.graphql_query.specs.declared.tree.Field.{Field}
 use Rattle.graphql_query.specs.declared.tree.InlineFragment.{InlineFragment}
@@ -51,8 +51,8 @@ module _ {N T : Type 0} (bytes : T → List ℕ) where
   pub nothing_levels : (s : SelectionSet N T) (w : Weights) → items_of s ≡ [] → selected_depth w (selection_set_view bytes s) ≡ 0
   nothing_levels s w e = rw (selection_set_parts s, e) refl
 
-  pub nothing_lawful : (s : SelectionSet N T) → items_of s ≡ [] → IsLawfulSet (selection_set_view bytes s)
-  nothing_lawful s e = rw (selection_set_parts s, e) tt
+  pub nothing_well_formed : (s : SelectionSet N T) → items_of s ≡ [] → IsWellFormedSet (selection_set_view bytes s)
+  nothing_well_formed s e = rw (selection_set_parts s, e) tt
 
   pub nothing_layout : (s : SelectionSet N T) (style : StyleOptions) (margin : ℕ) → items_of s ≡ []
       → selected_layout style margin (selection_set_view bytes s) ≡ gap (codes "\n")

@@ -12,7 +12,7 @@ use Rattle.graphql_query.specs.declared.tree.InlineFragment.{InlineFragment}
 use Rattle.graphql_query.specs.declared.tree.SelectionSet.{the_lemmas}
 use Rattle.graphql_query.specs.declared.tree.Selection.TheVariants as selections
 use Rattle.graphql_query.proofs.layouts.LayoutTexts.{field_parts, inline_fragment_parts}
-use Rattle.graphql_query.proofs.layouts.SetsTell.{no_arguments, no_directives}
+use Rattle.graphql_query.proofs.layouts.SetsDecide.{no_arguments, no_directives}
 
 -- ---- how deep a selection is
 
@@ -22,15 +22,15 @@ module _ {N T : Type 0} (bytes : T → List ℕ) where
   field_depth f =
       let seen : selection_view bytes (selections.Field f) ≡ field_view bytes f = search (rules, the_lemmas) in
       let given = no_arguments (arguments_view bytes f.arguments.items) in
-      let told = no_directives (directives_view bytes f.directives.items) in
-      rw (seen, field_parts bytes f) (omega (arith, given, told))
+      let stated = no_directives (directives_view bytes f.directives.items) in
+      rw (seen, field_parts bytes f) (omega (arith, given, stated))
 
   pub fragment_depth : (f : InlineFragment N T)
       → selection_depth in_sets (selection_view bytes (selections.InlineFragment f)) ≡ selection_set_depth in_sets (selection_set_view bytes f.selection_set)
   fragment_depth f =
       let seen : selection_view bytes (selections.InlineFragment f) ≡ inline_fragment_view bytes f = search (rules, the_lemmas) in
-      let told = no_directives (directives_view bytes f.directives.items) in
-      rw (seen, inline_fragment_parts bytes f) (omega (arith, told))
+      let stated = no_directives (directives_view bytes f.directives.items) in
+      rw (seen, inline_fragment_parts bytes f) (omega (arith, stated))
 
   pub spread_depth : (f : FragmentSpread N T) → selection_depth in_sets (selection_view bytes (selections.FragmentSpread f)) ≡ 0
   spread_depth f =
@@ -48,9 +48,9 @@ module _ {A : Type 0} (f : A → ℕ) where
   pub most_stored : (xs : List A) (i k : ℕ) (x : A) → i < length xs → k ≤ i
       → most f (drop k (take (i + 1) (set xs i x))) ≡ max (most f (drop k (take i xs))) (f x)
   most_stored xs i k x h b =
-      let cut = drop-append-le k (take i xs) (x ∷ []) (omega (arith, length-take-le i xs (omega arith))) in
+      let parted = drop-append-le k (take i xs) (x ∷ []) (omega (arith, length-take-le i xs (omega arith))) in
       let both = most_append (drop k (take i xs)) (x ∷ []) in
-      rw (take_more_set xs i x h, cut) (omega (arith, both))
+      rw (take_more_set xs i x h, parted) (omega (arith, both))
 
   -- and none of the first i
   pub most_kept : (xs : List A) (i k : ℕ) (x : A) → most f (drop k (take i (set xs i x))) ≡ most f (drop k (take i xs))

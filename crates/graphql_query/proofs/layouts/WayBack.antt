@@ -3,8 +3,8 @@ use Rattle.std.proofs.Common.{◌≡◌, ℕ, ◌+◌, ◌<◌, ◌≤◌, Bool,
 use Rattle.graphql_core.specs.{name_part, Place, Expr, Many, Sym, ParseTree, Both, leaves, optional, is_below, IsName, StyleOptions, Part, gap, ValueTree}
 use Rattle.graphql_core.specs.{DirectiveTree, no_place, erase_all, arguments_layout, directives_layout, shared, arguments_symbol, directives_symbol}
 use Rattle.graphql_core.specs.{shared_symbols, place_at, first_place, spelling_at, optional_arguments_of, directives_of, IsNameBut, IsPrintableArgument}
-use Rattle.graphql_core.specs.{IsPrintableDirective, arguments_brackets, directives_brackets, in_braces, AreLawfulArguments, AreLawfulDirectives, optional_of}
-use Rattle.graphql_core.specs.{optional_list_of, enclosed_of, AreReadBack, name}
+use Rattle.graphql_core.specs.{IsPrintableDirective, arguments_brackets, directives_brackets, in_braces, AreWellFormedArguments, AreWellFormedDirectives, optional_of}
+use Rattle.graphql_core.specs.{optional_list_of, enclosed_of, OutputsParseBack, name}
 use Rattle.graphql_core.proofs.{Takes, as_word_back, open_back, close_back, dots_back, four_back, five_back, six_back, lift_back, name_word, not_listed}
 use Rattle.graphql_core.proofs.{type_back, Any, means, margin_back, gap_back, then_gap, word_back, punctuator_back, nothing_back, both_back, first_back}
 use Rattle.graphql_core.proofs.{second_back, node_back, stop_back, more_back, three_back, spaces_blank, both_of_each, some_back, in_parentheses_back}
@@ -23,8 +23,8 @@ use Rattle.graphql_query.specs.{selected_layout, selection_set_layout, selection
 use Rattle.graphql_query.specs.{variable_definitions_layout, definition_layout, layout, IsPrintable, IsPrintableSelection, IsPrintableSet}
 use Rattle.graphql_query.specs.{ArePrintableSelections, IsPrintableVariable, IsPrintableOperation, IsPrintableDefinition, Selects, SelectsInside, SelectInside}
 use Rattle.graphql_query.specs.{AllSelectInside, DefinitionSelects, selection_brackets, selected_brackets, selection_set_brackets, selections_brackets}
-use Rattle.graphql_query.specs.{variable_definition_brackets, variable_definitions_brackets, definition_brackets, queries, IsReadBack, IsLawfulSelection}
-use Rattle.graphql_query.specs.{IsLawfulSet, AreLawfulSelections, IsLawfulVariable, IsLawfulDefinition, IsLawfulDocument}
+use Rattle.graphql_query.specs.{variable_definition_brackets, variable_definitions_brackets, definition_brackets, queries, ParsesBackTo, IsWellFormedSelection}
+use Rattle.graphql_query.specs.{IsWellFormedSet, AreWellFormedSelections, IsWellFormedVariable, IsWellFormedDefinition, IsWellFormedDocument}
 use Rattle.graphql_query.proofs.readers.{tested_alike, written_goes_on, readable}
 use Rattle.graphql_query.proofs.layouts.NoPositions.{layout_alike}
 use Rattle.graphql_core.proofs.documents.RoundTrip as round
@@ -63,14 +63,14 @@ fragment_spread_takes n (is, other) p = rw (not_listed n (codes "on" ∷ []) oth
 -- ---- selections
 
 module _ (style : StyleOptions) where
-  args : (margin : ℕ) (arguments : List (List ℕ × ValueTree)) (d : ℕ) → AllByRecursion IsPrintableArgument arguments → AreLawfulArguments arguments
+  args : (margin : ℕ) (arguments : List (List ℕ × ValueTree)) (d : ℕ) → AllByRecursion IsPrintableArgument arguments → AreWellFormedArguments arguments
       → d + arguments_brackets arguments ≤ 50
       → Back query (optional (Sym arguments_symbol)) true d (arguments_layout style margin arguments) true d (λ x. optional_arguments_of x ≡ arguments)
-  args margin arguments d is lawful deep = shared_back refl (arguments_back style margin arguments d is lawful deep)
+  args margin arguments d is well_formed deep = shared_back refl (arguments_back style margin arguments d is well_formed deep)
 
-  dirs : (margin : ℕ) (ds : List DirectiveTree) (d : ℕ) → AllByRecursion IsPrintableDirective ds → AreLawfulDirectives ds → d + directives_brackets ds ≤ 50
+  dirs : (margin : ℕ) (ds : List DirectiveTree) (d : ℕ) → AllByRecursion IsPrintableDirective ds → AreWellFormedDirectives ds → d + directives_brackets ds ≤ 50
       → Back query (Sym directives_symbol) true d (directives_layout style margin ds) true d (λ x. erase_all (directives_of x) ≡ erase_all ds)
-  dirs margin ds d is lawful deep = shared_back refl (directives_back style margin ds d is lawful deep)
+  dirs margin ds d is well_formed deep = shared_back refl (directives_back style margin ds d is well_formed deep)
 
   -- selections in braces
   braces_back : (margin : ℕ) (o c : Place) (s : SelectionTree) (ss : SelectionTrees) (d : ℕ) → d < 50
@@ -80,15 +80,15 @@ module _ (style : StyleOptions) where
       (λ x. erase_selections (selections_of x) ≡ erase_selections ss)
       → Back query (Sym selection_set_symbol) false d (in_braces margin (selections_layout style (margin + style.indent) (more s ss))) false d
       (λ x. erase_selection_set (selection_set_of x) ≡ erase_selection_set (set o c (more s ss)))
-  braces_back margin o c s ss d room one others =
+  braces_back margin o c s ss d capacity one others =
       node_back (λ x. refl) (three_back {Q = λ x. erase_selections (selections_of x) ≡ erase_selections (more s ss)}
-      (open_back (codes "{") (refl, refl) room (λ p. refl))
+      (open_back (codes "{") (refl, refl) capacity (λ p. refl))
       (gap_back refl (both_back one others (λ x y hx hy. ap₂ more hx hy)))
       (margin_back (spaces_blank margin) (then_gap 10 [] refl (close_back (codes "}") (refl, refl) (λ p. refl))))
       (λ x y z hx hy hz. ap (set no_place no_place) hy))
 
   mutual
-    selection_back : (margin : ℕ) (s : SelectionTree) (d : ℕ) → IsPrintableSelection s → SelectsInside s → IsLawfulSelection s → d + selection_brackets s ≤ 50
+    selection_back : (margin : ℕ) (s : SelectionTree) (d : ℕ) → IsPrintableSelection s → SelectsInside s → IsWellFormedSelection s → d + selection_brackets s ≤ 50
         → Back query (Sym selection_symbol) false d (selection_layout style margin s) false d (λ x. erase_selection (selection_of x) ≡ erase_selection s)
     selection_back margin (field p a n arguments ds s) d (alias, is, arg, dir, sel) inside (arglaw, dirlaw, law) deep =
         margin_back (spaces_blank margin) (node_back (λ x. refl) (first_back (node_back (λ x. refl) (five_back
@@ -107,7 +107,7 @@ module _ (style : StyleOptions) where
         (gap_back refl (selection_set_back margin s d sel inside.0 inside.1 law (omega arith)))
         (λ x y z w hx hy hz hw. λ i. inline no_place (hy i) (hz i) (hw i)))))))
 
-    selected_back : (margin : ℕ) (s : SelectionSetTree) (d : ℕ) → IsPrintableSet s → SelectInside s → IsLawfulSet s → d + selected_brackets s ≤ 50
+    selected_back : (margin : ℕ) (s : SelectionSetTree) (d : ℕ) → IsPrintableSet s → SelectInside s → IsWellFormedSet s → d + selected_brackets s ≤ 50
         → Back query (optional (Sym selection_set_symbol)) true d (selected_layout style margin s) false d
         (λ x. (p : Place) → erase_selection_set (optional_selection_set_of p x) ≡ erase_selection_set s)
     selected_back margin (set o c none) d is inside law deep = gap_back refl (second_back (nothing_back (λ p. refl)))
@@ -116,7 +116,7 @@ module _ (style : StyleOptions) where
         (selection_back (margin + style.indent) s (d + 1) is one law (omega arith))
         (selections_back (margin + style.indent) ss (d + 1) are others laws (omega arith)))))
 
-    selection_set_back : (margin : ℕ) (s : SelectionSetTree) (d : ℕ) → IsPrintableSet s → Selects s → SelectInside s → IsLawfulSet s
+    selection_set_back : (margin : ℕ) (s : SelectionSetTree) (d : ℕ) → IsPrintableSet s → Selects s → SelectInside s → IsWellFormedSet s
         → d + selection_set_brackets s ≤ 50
         → Back query (Sym selection_set_symbol) false d (selection_set_layout style margin s) false d
         (λ x. erase_selection_set (selection_set_of x) ≡ erase_selection_set s)
@@ -125,7 +125,7 @@ module _ (style : StyleOptions) where
         braces_back margin o c s ss d (omega arith) (selection_back (margin + style.indent) s (d + 1) is one law (omega arith))
         (selections_back (margin + style.indent) ss (d + 1) are others laws (omega arith))
 
-    selections_back : (margin : ℕ) (ss : SelectionTrees) (d : ℕ) → ArePrintableSelections ss → AllSelectInside ss → AreLawfulSelections ss
+    selections_back : (margin : ℕ) (ss : SelectionTrees) (d : ℕ) → ArePrintableSelections ss → AllSelectInside ss → AreWellFormedSelections ss
         → d + selections_brackets ss ≤ 50
         → Back query (Many (Sym selection_symbol)) false d (selections_layout style margin ss) false d
         (λ x. erase_selections (selections_of x) ≡ erase_selections ss)
@@ -135,7 +135,7 @@ module _ (style : StyleOptions) where
 
   -- ---- variables
 
-  variable_definition_back : (v : VariableDefinitionTree) (d : ℕ) → IsPrintableVariable v → IsLawfulVariable v → d + variable_definition_brackets v ≤ 50
+  variable_definition_back : (v : VariableDefinitionTree) (d : ℕ) → IsPrintableVariable v → IsWellFormedVariable v → d + variable_definition_brackets v ≤ 50
       → Back query (Sym variable_definition_symbol) false d (variable_definition_layout style v) true d
       (λ x. erase_variable_definition (variable_definition_of x) ≡ erase_variable_definition v)
   variable_definition_back v d (is, type, default, dir) (defaultlaw, dirlaw) deep =
@@ -147,12 +147,12 @@ module _ (style : StyleOptions) where
       (λ x y z w k l hx hy hz hw hk hl. λ i.
       record { position = no_place; name = hy i; var_type = hw i; default_value = hk i; directives = hl i }))
 
-  variable_definitions_back : (vs : List VariableDefinitionTree) (d : ℕ) → AllByRecursion IsPrintableVariable vs → AllByRecursion IsLawfulVariable vs
+  variable_definitions_back : (vs : List VariableDefinitionTree) (d : ℕ) → AllByRecursion IsPrintableVariable vs → AllByRecursion IsWellFormedVariable vs
       → d + variable_definitions_brackets vs ≤ 50
       → Back query (optional (Sym variable_definitions_symbol)) true d (variable_definitions_layout style vs) true d
       (λ x. map erase_variable_definition (optional_list_of (enclosed_of variable_definition_of) x) ≡ map erase_variable_definition vs)
   variable_definitions_back =
-      in_parentheses_back variable_definition_of erase_variable_definition (variable_definition_layout style) IsPrintableVariable IsLawfulVariable
+      in_parentheses_back variable_definition_of erase_variable_definition (variable_definition_layout style) IsPrintableVariable IsWellFormedVariable
       variable_definition_brackets refl (λ x. refl) (λ p. refl) (λ p. refl) variable_definition_back
 
   -- ---- definitions
@@ -163,7 +163,7 @@ module _ (style : StyleOptions) where
   operation_name_back (Some n) d is = first_back (gap_back refl (means (λ x h. ap Some h) (named_back n d is)))
 
   -- what follows the keyword of an operation
-  operation_body_back : (o : OperationTree) (d : ℕ) → IsPrintableOperation o → Selects o.selected → SelectInside o.selected → IsLawfulDefinition (operation o)
+  operation_body_back : (o : OperationTree) (d : ℕ) → IsPrintableOperation o → Selects o.selected → SelectInside o.selected → IsWellFormedDefinition (operation o)
       → d + definition_brackets (operation o) ≤ 50
       → Back query (Sym operation_body_symbol) true d (operation_name_layout o.name ++ (variable_definitions_layout style o.variables
       ++ (directives_layout style 0 o.directives ++ (gap (codes " ") ++ selection_set_layout style 0 o.selected)))) false d
@@ -183,7 +183,7 @@ module _ (style : StyleOptions) where
       (λ x y z w hx hy hz hw k p e. λ i. record { kind = e i; position = no_place; name = hx i; variables = hy i; directives = hz i; selected = hw i }))
 
   operation_back : (k : OperationKind) (o : OperationTree) (d : ℕ) → k ≡ o.kind → IsPrintableOperation o → Selects o.selected → SelectInside o.selected
-      → IsLawfulDefinition (operation o) → d + definition_brackets (operation o) ≤ 50
+      → IsWellFormedDefinition (operation o) → d + definition_brackets (operation o) ≤ 50
       → Back query (Sym operation_symbol) false d
       (name_part (keyword k) ++ (operation_name_layout o.name
       ++ (variable_definitions_layout style o.variables
@@ -199,7 +199,7 @@ module _ (style : StyleOptions) where
       node_back (λ x. refl) (second_back (second_back (second_back (both_back {P = Any} (word_back (name_word (codes "subscription") (refl, refl)) (λ p. refl)
       (λ t e. tt)) (operation_body_back o d is some inside law deep) (λ w x hw hx. ap operation (hx subscription_kind (place_at w) e))))))
 
-  definition_back : (t : DefinitionTree) (d : ℕ) → IsPrintableDefinition t → DefinitionSelects t → IsLawfulDefinition t → d + definition_brackets t ≤ 50
+  definition_back : (t : DefinitionTree) (d : ℕ) → IsPrintableDefinition t → DefinitionSelects t → IsWellFormedDefinition t → d + definition_brackets t ≤ 50
       → Back query (Sym definition_symbol) false d (definition_layout style t) false d (λ x. erase_definition (definition_of x) ≡ erase_definition t)
   definition_back (short s) d is (some, inside) law deep =
       node_back (λ x. refl) (first_back (node_back (λ x. refl) (first_back (means (λ x h. ap short h) (selection_set_back 0 s d is some inside law deep)))))
@@ -214,12 +214,12 @@ module _ (style : StyleOptions) where
   -- ---- documents
 
   -- the layout of a printable document parses back to it, ignoring positions
-  pub way_back : (ts : DocumentTree) → IsPrintable ts → IsLawfulDocument ts → IsReadBack (layout style ts) ts
+  pub way_back : (ts : DocumentTree) → IsPrintable ts → IsWellFormedDocument ts → ParsesBackTo (layout style ts) ts
   way_back [] is law = absurd is.definition
   way_back (t ∷ ts) is law =
       document_back queries (t ∷ ts) (node_back (λ x. refl) (some_back 0 definition_of erase_definition (definition_layout style) IsPrintableDefinition
-      (λ u. DefinitionSelects u × IsLawfulDefinition u) definition_brackets (λ u p h b. definition_back u 0 p h.0 h.1 b) 10 [] refl t ts
-      is.names (both_of_each DefinitionSelects IsLawfulDefinition (t ∷ ts) is.selections law) (omega (arith, is.depth))))
+      (λ u. DefinitionSelects u × IsWellFormedDefinition u) definition_brackets (λ u p h b. definition_back u 0 p h.0 h.1 b) 10 [] refl t ts
+      is.names (both_of_each DefinitionSelects IsWellFormedDefinition (t ∷ ts) is.selections law) (omega (arith, is.depth))))
 
-pub are_read_back : AreReadBack queries layout (λ d. IsPrintable d × IsLawfulDocument d)
-are_read_back = round.are_read_back queries readable layout layout_alike (λ d. IsPrintable d × IsLawfulDocument d) (λ style d is. way_back style d is.0 is.1)
+pub parse_back : OutputsParseBack queries layout (λ d. IsPrintable d × IsWellFormedDocument d)
+parse_back = round.parse_back queries readable layout layout_alike (λ d. IsPrintable d × IsWellFormedDocument d) (λ style d is. way_back style d is.0 is.1)

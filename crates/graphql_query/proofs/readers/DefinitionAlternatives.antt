@@ -6,7 +6,7 @@ use Rattle.graphql_core.proofs.{FailsUnseen, unseen_one, unseen_then, unseen_eit
 use Rattle.graphql_core.proofs.{side_in, side_nth, sees_both, sees_neither}
 use Rattle.graphql_query.specs.{DefinitionTree, operation, OperationKind, query_kind, mutation_kind, subscription_kind, reading, changes, factored_rows, tables}
 use Rattle.graphql_query.specs.{definition_symbol, operation_symbol, selection_set_symbol, fragment_definition_symbol, keyword_operation_of, operation_of}
-use Rattle.graphql_query.specs.{word_of, keyword_rule, Tells, sees_definition, definition_of}
+use Rattle.graphql_query.specs.{word_of, keyword_rule, HasNextKeyword, sees_definition, definition_of}
 
 abbrev brace : Class
 brace = punctuator_class (codes "{")
@@ -44,7 +44,7 @@ unseen_selection_set : (ts : List Token) → FailsUnseen reading (Sym selection_
 unfolding tables shared_tables
 unseen_selection_set ts = unseen_symbol reading selection_set_symbol ts refl (unseen_then reading _ _ ts refl (unseen_one reading _ ts))
 
-pub short_side : (i : Items) → Tells i None → IsSide reading (Sym operation_symbol) (Sym selection_set_symbol) as_short i.tokens
+pub short_side : (i : Items) → HasNextKeyword i None → IsSide reading (Sym operation_symbol) (Sym selection_set_symbol) as_short i.tokens
 unfolding tables shared_tables
 short_side i (q, m, s) =
     let ts = i.tokens in

@@ -2,7 +2,7 @@
 use Rattle.std.proofs.Common.{◌+◌, Bool, true, List, [], length, drop, refl}
 use Rattle.graphql_core.proofs.{each_is_factored, IsFactored-second, IsFactored-symbols, IsFactored-prefix, unchanged_then}
 use Rattle.graphql_core.proofs.{tests_alike, with_more, alone_before, one_cause}
-use Rattle.graphql_core.specs.{Grammar, Token, Class, Expr, Row, row_at, EachIsFactored, RefusesTokens, Extends}
+use Rattle.graphql_core.specs.{Grammar, Token, Class, Expr, Row, row_at, EachIsFactored, RejectsTokens, Extends}
 use Rattle.graphql_core.specs.{TestsAlike, shared, tables as shared_tables, shared_symbols, unquoted, name, IsReadable}
 use Rattle.graphql_query.specs.{queries, query, factored_rows, changes, reading, tables, samples, selection_symbol, field_symbol, fragment_spread_symbol}
 use Rattle.graphql_query.specs.{inline_fragment_symbol, alias_symbol, fragment_spread_rest, inline_fragment_rest, field_rest}
@@ -31,8 +31,8 @@ each good = each_is_factored g factored_rows changes (
     after = drop (field_symbol + 1) factored_rows
 
 -- no node is rejected
-none_refused : RefusesTokens query
-none_refused k x fits refused empty = absurd cc
+none_rejected : RejectsTokens query
+none_rejected k x fits rejected empty = absurd cc
 
 -- leaves are tested as in the shared grammar, by the written and by the factored rules
 pub tested_alike : (e : Expr) → TestsAlike shared query e
@@ -66,7 +66,7 @@ readable = record {
   lacks = λ k t c h. h;
   location = λ t h. absurd cc;
   one_cause = λ leaf t c d h w. one_cause t c d h w;
-  refuses_tokens = none_refused;
+  rejects_tokens = none_rejected;
   passes = λ x. refl;
   one_said = λ node f g h w. absurd h;
 }

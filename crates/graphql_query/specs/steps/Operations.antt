@@ -23,9 +23,9 @@ abbrev pub keyword_rule : OperationKind → Expr
 keyword_rule kind = Then (One (word_of kind)) (Sym operation_body_symbol)
 
 -- this keyword is next, or none of the three is
-abbrev pub Tells : Items → Option Keyword → Type 0
-Tells i (Some k) = sees_class (word_of (kind_of k)) i ≡ true
-Tells i None =
+abbrev pub HasNextKeyword : Items → Option Keyword → Type 0
+HasNextKeyword i (Some k) = sees_class (word_of (kind_of k)) i ≡ true
+HasNextKeyword i None =
     (sees_class (word_of query_kind) i ≡ false) × (sees_class (word_of mutation_kind) i ≡ false)
     × (sees_class (word_of subscription_kind) i ≡ false)
 

@@ -15,9 +15,9 @@ pub struct MinifyError {
 }
 
 impl Model for MinifyError {
-    ghost use Rattle.graphql_core.specs.{Refusal};
+    ghost use Rattle.graphql_core.specs.{ParseFailure};
 
-    ghost Value = { Refusal };
+    ghost Value = { ParseFailure };
 
     ghost view = { λ e. e.fault };
 }

@@ -1,5 +1,5 @@
 //! Formatting fragments, definitions and documents.
-ghost use Rattle.graphql_query.specs.{IsLawfulFragment, IsLawfulDefinition, IsLawfulDocument};
+ghost use Rattle.graphql_query.specs.{IsWellFormedFragment, IsWellFormedDefinition, IsWellFormedDocument};
 ghost use Rattle.graphql_query.specs.{fragment_definition_layout, definition_layout, document_layout};
 ghost use Rattle.graphql_query.specs.{fragment_definition_levels, definition_levels, levels};
 ghost use Rattle.graphql_query.specs.{fragment_definition_view, operation_definition_view, definition_view};
@@ -20,7 +20,7 @@ impl<N: Names> Pretty for OperationDefinition<N> {
 
     ghost opens = { λ style o. definition_levels style (operation_definition_view N.bytes o) };
 
-    ghost lawful = { λ o. IsLawfulDefinition (operation_definition_view N.bytes o) };
+    ghost well_formed = { λ o. IsWellFormedDefinition (operation_definition_view N.bytes o) };
 
     fn levels(&self, style: &Style) -> usize {
         match self {
@@ -52,7 +52,7 @@ impl<N: Names> Pretty for FragmentDefinition<N> {
 
     ghost opens = { λ style f. fragment_definition_levels style (fragment_definition_view N.bytes f) };
 
-    ghost lawful = { λ f. IsLawfulFragment (fragment_definition_view N.bytes f) };
+    ghost well_formed = { λ f. IsWellFormedFragment (fragment_definition_view N.bytes f) };
 
     fn levels(&self, style: &Style) -> usize {
         levels_in_directives(&self.directives, style).max(self.selection_set.levels(style))
@@ -71,7 +71,7 @@ impl<N: Names> Pretty for Definition<N> {
 
     ghost opens = { λ style d. definition_levels style (definition_view N.bytes d) };
 
-    ghost lawful = { λ d. IsLawfulDefinition (definition_view N.bytes d) };
+    ghost well_formed = { λ d. IsWellFormedDefinition (definition_view N.bytes d) };
 
     fn levels(&self, style: &Style) -> usize {
         match self {
@@ -94,7 +94,7 @@ impl<N: Names> Pretty for Document<N> {
 
     ghost opens = { λ style d. levels style (document_view N.bytes d) };
 
-    ghost lawful = { λ d. IsLawfulDocument (document_view N.bytes d) };
+    ghost well_formed = { λ d. IsWellFormedDocument (document_view N.bytes d) };
 
     fn levels(&self, style: &Style) -> usize {
         levels_in_each(&self.definitions, style)

@@ -2,7 +2,7 @@
 ghost use Rattle.std.specs.Prelude.{◌*◌, ◌^◌, ◌<◌, OnOk, option_map};
 ghost use Rattle.graphql_core.specs.{text_of};
 ghost use Rattle.graphql_query.specs.{variable_definition_view, variable_definitions_view, operation_seen};
-ghost use Rattle.graphql_query.specs.{operation, IsLawfulVariable, AreLawfulVariables, IsLawfulDefinition};
+ghost use Rattle.graphql_query.specs.{operation, IsWellFormedVariable, AreWellFormedVariables, IsWellFormedDefinition};
 ghost use Rattle.graphql_query.specs.{operation_name_layout};
 ghost use Rattle.graphql_query.specs.{variable_definition_layout, variable_definitions_layout, operation_layout};
 ghost use Rattle.graphql_query.specs.{variable_definition_levels, variable_definitions_levels, operation_levels};
@@ -37,7 +37,7 @@ impl<N: Names> Pretty for VariableDefinition<N> {
 
     ghost opens = { λ style v. variable_definition_levels style (variable_definition_view N.bytes v) };
 
-    ghost lawful = { λ v. IsLawfulVariable (variable_definition_view N.bytes v) };
+    ghost well_formed = { λ v. IsWellFormedVariable (variable_definition_view N.bytes v) };
 
     fn levels(&self, style: &Style) -> usize {
         let default_value = levels_in_default(&self.default_value, style);
@@ -62,7 +62,7 @@ fn write_variable_definitions<S: Sink, N: Names>(
         * style.now.indent < 2 ^ 32 }
     ensures text { OnOk result (S.took out.old
         (text_of (variable_definitions_layout style.now (variable_definitions_view N.bytes variables.now))) out.new) }
-    ensures lawful { OnOk result (AreLawfulVariables (variable_definitions_view N.bytes variables.now)) }
+    ensures well_formed { OnOk result (AreWellFormedVariables (variable_definitions_view N.bytes variables.now)) }
 {
     if variables.is_empty() {
         return Ok(());
@@ -89,7 +89,7 @@ impl<'a, N: Names> Pretty for OperationParts<'a, N> {
 
     ghost opens = { λ style o. operation_levels style (operation_seen N.bytes o) };
 
-    ghost lawful = { λ o. IsLawfulDefinition (operation (operation_seen N.bytes o)) };
+    ghost well_formed = { λ o. IsWellFormedDefinition (operation (operation_seen N.bytes o)) };
 
     fn levels(&self, style: &Style) -> usize {
         let variables = levels_in_each(self.variables, style);

@@ -2,8 +2,8 @@
 ghost use Rattle.std.specs.Prelude.{◌+◌, ◌*◌, ◌^◌, ◌<◌, ◌++◌, OnOk, option_map};
 ghost use Rattle.graphql_core.specs.{text_of};
 ghost use Rattle.graphql_query.specs.{type_condition_view, fragment_spread_view, field_view, inline_fragment_view};
-ghost use Rattle.graphql_query.specs.{selection_view, selections_view, selection_set_view, IsLawfulSelection};
-ghost use Rattle.graphql_query.specs.{IsLawfulSet, AreLawfulSelections, alias_layout, type_condition_layout};
+ghost use Rattle.graphql_query.specs.{selection_view, selections_view, selection_set_view, IsWellFormedSelection};
+ghost use Rattle.graphql_query.specs.{IsWellFormedSet, AreWellFormedSelections, alias_layout, type_condition_layout};
 ghost use Rattle.graphql_query.specs.{on_layout, selection_layout, selected_layout, selections_layout};
 ghost use Rattle.graphql_query.specs.{selection_set_layout, selection_levels, selected_levels, selections_levels};
 ghost use Rattle.graphql_query.specs.{selection_set_levels};
@@ -65,7 +65,7 @@ fn write_fragment_spread<S: Sink, N: Names>(
         < 2 ^ 32 }
     ensures text { OnOk result (S.took out.old
         (text_of (selection_layout style.now margin (fragment_spread_view N.bytes spread.now))) out.new) }
-    ensures lawful { OnOk result (IsLawfulSelection (fragment_spread_view N.bytes spread.now)) }
+    ensures well_formed { OnOk result (IsWellFormedSelection (fragment_spread_view N.bytes spread.now)) }
 {
     write_spaces(out, margin)?;
     out.push_two("...", N::view(&spread.fragment_name))?;
@@ -87,7 +87,7 @@ pub fn write_selection_set<S: Sink, N: Names>(
         < 2 ^ 32 }
     ensures text { OnOk result (S.took out.old
         (before.now ++ text_of (selection_set_layout style.now margin (selection_set_view N.bytes set.now))) out.new) }
-    ensures lawful { OnOk result (IsLawfulSet (selection_set_view N.bytes set.now)) }
+    ensures well_formed { OnOk result (IsWellFormedSet (selection_set_view N.bytes set.now)) }
 {
     out.push_two(before, "{\n")?;
     let inside = margin + style.indentation() as usize;
@@ -108,7 +108,7 @@ fn write_selections<S: Sink, N: Names>(
     requires { margin + selections_levels style.now (selections_view N.bytes items.now) * style.now.indent < 2 ^ 32 }
     ensures text { OnOk result
         (S.took out.old (text_of (selections_layout style.now margin (selections_view N.bytes items.now))) out.new) }
-    ensures lawful { OnOk result (AreLawfulSelections (selections_view N.bytes items.now)) }
+    ensures well_formed { OnOk result (AreWellFormedSelections (selections_view N.bytes items.now)) }
 {
     'items: for item in items {
         write_selection(out, item, style, margin)?;
@@ -127,7 +127,7 @@ fn write_selection<S: Sink, N: Names>(
     requires { margin + selection_levels style.now (selection_view N.bytes selection.now) * style.now.indent < 2 ^ 32 }
     ensures text { OnOk result
         (S.took out.old (text_of (selection_layout style.now margin (selection_view N.bytes selection.now))) out.new) }
-    ensures lawful { OnOk result (IsLawfulSelection (selection_view N.bytes selection.now)) }
+    ensures well_formed { OnOk result (IsWellFormedSelection (selection_view N.bytes selection.now)) }
 {
     match selection {
         Selection::Field(field) => write_field(out, field, style, margin),
@@ -147,7 +147,7 @@ fn write_field<S: Sink, N: Names>(
     requires { margin + selection_levels style.now (field_view N.bytes field.now) * style.now.indent < 2 ^ 32 }
     ensures text { OnOk result
         (S.took out.old (text_of (selection_layout style.now margin (field_view N.bytes field.now))) out.new) }
-    ensures lawful { OnOk result (IsLawfulSelection (field_view N.bytes field.now)) }
+    ensures well_formed { OnOk result (IsWellFormedSelection (field_view N.bytes field.now)) }
 {
     write_spaces(out, margin)?;
     write_alias::<S, N>(out, &field.alias)?;
@@ -168,7 +168,7 @@ fn write_optional_selection_set<S: Sink, N: Names>(
     requires { margin + selected_levels style.now (selection_set_view N.bytes set.now) * style.now.indent < 2 ^ 32 }
     ensures text { OnOk result
         (S.took out.old (text_of (selected_layout style.now margin (selection_set_view N.bytes set.now))) out.new) }
-    ensures lawful { OnOk result (IsLawfulSet (selection_set_view N.bytes set.now)) }
+    ensures well_formed { OnOk result (IsWellFormedSet (selection_set_view N.bytes set.now)) }
 {
     if set.items.is_empty() {
         return out.push_str("\n");
@@ -187,7 +187,7 @@ fn write_inline_fragment<S: Sink, N: Names>(
         < 2 ^ 32 }
     ensures text { OnOk result (S.took out.old
         (text_of (selection_layout style.now margin (inline_fragment_view N.bytes fragment.now))) out.new) }
-    ensures lawful { OnOk result (IsLawfulSelection (inline_fragment_view N.bytes fragment.now)) }
+    ensures well_formed { OnOk result (IsWellFormedSelection (inline_fragment_view N.bytes fragment.now)) }
 {
     write_spaces(out, margin)?;
     out.push_str("...")?;
@@ -201,7 +201,7 @@ impl<N: Names> Pretty for SelectionSet<N> {
 
     ghost opens = { λ style s. selection_set_levels style (selection_set_view N.bytes s) };
 
-    ghost lawful = { λ s. IsLawfulSet (selection_set_view N.bytes s) };
+    ghost well_formed = { λ s. IsWellFormedSet (selection_set_view N.bytes s) };
 
     fn levels(&self, style: &Style) -> usize {
         levels_in_selection_set::<N, true>(self, style)
@@ -217,7 +217,7 @@ impl<N: Names> Pretty for Field<N> {
 
     ghost opens = { λ style f. selection_levels style (field_view N.bytes f) };
 
-    ghost lawful = { λ f. IsLawfulSelection (field_view N.bytes f) };
+    ghost well_formed = { λ f. IsWellFormedSelection (field_view N.bytes f) };
 
     fn levels(&self, style: &Style) -> usize {
         levels_in_field::<N, true>(self, style)
@@ -233,7 +233,7 @@ impl<N: Names> Pretty for FragmentSpread<N> {
 
     ghost opens = { λ style s. selection_levels style (fragment_spread_view N.bytes s) };
 
-    ghost lawful = { λ s. IsLawfulSelection (fragment_spread_view N.bytes s) };
+    ghost well_formed = { λ s. IsWellFormedSelection (fragment_spread_view N.bytes s) };
 
     fn levels(&self, style: &Style) -> usize {
         levels_in_fragment_spread::<N, true>(self, style)
@@ -249,7 +249,7 @@ impl<N: Names> Pretty for InlineFragment<N> {
 
     ghost opens = { λ style f. selection_levels style (inline_fragment_view N.bytes f) };
 
-    ghost lawful = { λ f. IsLawfulSelection (inline_fragment_view N.bytes f) };
+    ghost well_formed = { λ f. IsWellFormedSelection (inline_fragment_view N.bytes f) };
 
     fn levels(&self, style: &Style) -> usize {
         levels_in_inline_fragment::<N, true>(self, style)

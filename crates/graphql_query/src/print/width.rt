@@ -113,7 +113,7 @@ fn sets_in_document<N: Names>(document: &Document<N>, style: &Style) -> usize
 }
 
 /// Whether the selection sets alone show that a document is not too wide in a style.
-fn leaves_room<N: Names>(document: &Document<N>, style: &Style) -> bool
+fn is_narrow_by_sets<N: Names>(document: &Document<N>, style: &Style) -> bool
     ensures { IsTrue result → IsTooWide style.now (document_view N.bytes document.now) → ⊥ }
 {
     if style.has_multiline_arguments() {
@@ -126,7 +126,7 @@ fn leaves_room<N: Names>(document: &Document<N>, style: &Style) -> bool
 pub fn is_document_too_wide<N: Names>(document: &Document<N>, style: &Style) -> bool
     ensures { IsTrue result ↔ IsTooWide style.now (document_view N.bytes document.now) }
 {
-    if leaves_room(document, style) {
+    if is_narrow_by_sets(document, style) {
         return false;
     }
     is_too_wide(document.levels(style), style)

@@ -1,7 +1,7 @@
 //! The keywords that begin operations.
 ghost use Rattle.std.specs.Prelude.{◌≡◌};
 ghost use Rattle.graphql_query.specs.Layout.{keyword};
-ghost use Rattle.graphql_query.specs.steps.Operations.{kind_of, Tells};
+ghost use Rattle.graphql_query.specs.steps.Operations.{kind_of, HasNextKeyword};
 
 use graphql_core::helpers::{TokenSource, sees_keyword};
 
@@ -28,7 +28,7 @@ impl Keyword {
 
 /// The next token as an operation keyword; `None` if it is another token.
 pub fn peek_keyword<S: TokenSource>(source: &S) -> Option<Keyword>
-    ensures { Tells (S.items source.now) result }
+    ensures { HasNextKeyword (S.items source.now) result }
 {
     if sees_keyword(source, "query") {
         Some(Keyword::Query)

@@ -5,7 +5,7 @@ use Rattle.std.proofs.Common.{sym, ap, ◌∙◌}
 use Rattle.graphql_core.specs.{Token, Class, Spelled, AnyOf, Except, ParseTree, Node, accepts, CauseText, empty_extension, unplaced, FaultText, string_of}
 use Rattle.graphql_core.specs.{block_string_of, no_place, erase_all, spelling_at, directives_of, optional_of, optional_list_of, enclosed_of}
 use Rattle.graphql_core.proofs.{SameTrees, same_both, same_first, same_second, same_block, same_node, left_tree, right_tree, SameLeaf, IsSame, ByValues}
-use Rattle.graphql_core.proofs.{DependsOnValues, RefusesAlike, accepted_same, valueless_alike, there_same, optional_same, optional_list_same, each_same}
+use Rattle.graphql_core.proofs.{DependsOnValues, RejectsAlike, accepted_same, valueless_alike, there_same, optional_same, optional_list_same, each_same}
 use Rattle.graphql_core.proofs.{each_alike, enclosed_same, enclosed_alike, joined_same, spelling_same, type_same, optional_default_same, directives_same}
 use Rattle.graphql_schema.specs.{schema_by, description_of, input_value_of, field_of, enum_value_of, interfaces_of, members_of, schema_of, schema_extension_of}
 use Rattle.graphql_schema.specs.{scalar_of, object_of, interface_of, union_of, enum_of, input_of, body_of, location_at, present, locations_of, keyword_place_of}
@@ -277,11 +277,11 @@ of_cause : (o : Option FaultText) (c : CauseText) → option_map cause o ≡ Som
 of_cause None c h = absurd cc
 of_cause (Some g) c h = (g, refl, cc)
 
-refuses_node : (k : ℕ) (s : SameTrees) (f : FaultText) → said_of (Node k (left_tree s)) ≡ Some f
+rejects_node : (k : ℕ) (s : SameTrees) (f : FaultText) → said_of (Node k (left_tree s)) ≡ Some f
     → (g : FaultText) × (said_of (Node k (right_tree s)) ≡ Some g) × (g.cause ≡ f.cause)
-refuses_node k s f said =
+rejects_node k s f said =
     let alike = said_cause k (right_tree s) ∙ cause_same k s ∙ sym (said_cause k (left_tree s)) in
     of_cause (said_of (Node k (right_tree s))) f.cause (alike ∙ ap (option_map cause) said)
 
-pub refuses_alike : RefusesAlike schemas
-refuses_alike = record { lacks = lacks_alike; refuses = refuses_node }
+pub rejects_alike : RejectsAlike schemas
+rejects_alike = record { lacks = lacks_alike; rejects = rejects_node }

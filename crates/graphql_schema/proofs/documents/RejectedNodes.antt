@@ -8,7 +8,7 @@ use Rattle.graphql_core.proofs.{same_spelling-true}
 use Rattle.graphql_core.specs.{Grammar, Token, Place, Class, Spelled, AnyOf, Except, Many, Sym, ParseTree, Node, row, accepts, matches, Fits, fits_nothing}
 use Rattle.graphql_core.specs.{fits_leaf, fits_both, fits_first, fits_second, fits_stop, fits_more, fits_node, leaves, same_spelling, is_listed, some_of}
 use Rattle.graphql_core.specs.{each_of, CauseText, empty_extension, FaultText, split, Item, TokenContent, item_at, Where, HasNoValue, Reason, Unexpected}
-use Rattle.graphql_core.specs.{Improper, Refused, kind_number, keyword}
+use Rattle.graphql_core.specs.{Improper, RejectedNode, kind_number, keyword}
 use Rattle.graphql_core.specs.sources.Source.{fault_by}
 use Rattle.graphql_core.specs.documents.Faults.{out_of_range, malformed, escaped_badly, Says, IsFaultAt, from_item}
 use Rattle.graphql_core.specs.lexical.Items.{Content}
@@ -18,7 +18,7 @@ use Rattle.graphql_schema.specs.{schema_symbol, root_type_symbol, extension_symb
 use Rattle.graphql_schema.specs.{object_symbol, interface_symbol, union_symbol, enum_symbol, input_symbol, scalar_of, object_of, interface_of, union_of}
 use Rattle.graphql_schema.specs.{enum_of, input_of, schema_grammar, passes, schema_rule, schema_extension_rule, extension_rule, body_of, schema_extension_of}
 use Rattle.graphql_schema.specs.{said_of, Lacks, IsNameSpelled, HasName, IsWrongSchema, IsEmptyExtension, RefersBy, RefersTo}
-use Rattle.graphql_schema.proofs.readers.RootNames.{told}
+use Rattle.graphql_schema.proofs.readers.RootNames.{name_fault}
 use Rattle.graphql_core.specs.lexical.Items as items_of
 
 -- ---- tokens
@@ -86,19 +86,19 @@ abbrev Why : RootFault → List Token → Type 0
 Why (unknown n) ts = is_listed n root_names ≡ false
 Why (duplicate n) ts = HasName n ts
 
-told_is : (known twice : Bool) (n : List ℕ) (f : RootFault) (ts : List Token) → is_listed n root_names ≡ known → (twice ≡ true → HasName n ts)
-    → told known twice n ≡ Some f → (name_of f ≡ n) × Why f ts
-told_is false twice n f ts is has h =
+name_fault_is : (known twice : Bool) (n : List ℕ) (f : RootFault) (ts : List Token) → is_listed n root_names ≡ known → (twice ≡ true → HasName n ts)
+    → name_fault known twice n ≡ Some f → (name_of f ≡ n) × Why f ts
+name_fault_is false twice n f ts is has h =
     let e : unknown n ≡ f = cc in
     subst (λ (g : RootFault). (name_of g ≡ n) × Why g ts) e (refl, is)
-told_is true true n f ts is has h =
+name_fault_is true true n f ts is has h =
     let e : duplicate n ≡ f = cc in
     subst (λ (g : RootFault). (name_of g ≡ n) × Why g ts) e (refl, has refl)
-told_is true false n f ts is has h = absurd cc
+name_fault_is true false n f ts is has h = absurd cc
 
 fault_here : (bs : List Root) (ts : List Token) (r : Root) (f : RootFault) → Named bs ts → fault_after bs r ≡ Some f
     → (name_of f ≡ r.name) × Why f ts
-fault_here bs ts r f named h = told_is (is_listed r.name root_names) (is_some (type_in bs r.name)) r.name f ts refl (named r.name) h
+fault_here bs ts r f named h = name_fault_is (is_listed r.name root_names) (is_some (type_in bs r.name)) r.name f ts refl (named r.name) h
 
 -- Where the first wrong operation is named in the tokens, after others.
 abbrev Wrong : RootFault → List Token → List Token → Type 0
@@ -300,7 +300,7 @@ module _ (before us ts : List Token) (n : ℕ) (f : FaultText) where
   -- only these nodes are rejected
   node_refers : (k : ℕ) (x : ParseTree) → Fits schema_grammar (row schema_grammar k).rule x → passes k x ≡ false → Between x → said_of (Node k x) ≡ Some f
       → RefersTo ts n f
-  node_refers k x fits refused between h = elim (cases_Bool (k == schema_symbol)) [
+  node_refers k x fits rejected between h = elim (cases_Bool (k == schema_symbol)) [
     | inl e ↦
         let is : k ≡ schema_symbol = grind (arith, nat_tests) in
         schema_refers x (subst (λ (j : ℕ). Fits schema_grammar (row schema_grammar j).rule x) is fits) between
@@ -317,7 +317,7 @@ module _ (before us ts : List Token) (n : ℕ) (f : FaultText) where
             (subst (λ (j : ℕ). said_of (Node j x) ≡ Some f) is h)
         | inr e'' ↦
             let passed : passes k x ≡ true = rw (e, e', e'') refl in
-            absurd (both_ways (passes k x) refused passed)
+            absurd (both_ways (passes k x) rejected passed)
       ]
     ]
   ]
@@ -354,7 +354,7 @@ says_refers : (why : Reason) (items : List Item) (f : FaultText) (n : ℕ) → S
 says_refers Unexpected items f n said =
     subst (RefersTo (split items).tokens n) (sym said) (item_refers (split items).tokens (from_item n (split items).tokens) n items)
 says_refers (Improper c) items f n (t, rest, is, lacks, at) = leaf_refers (split items).tokens n f.place c t f.cause lacks
-says_refers (Refused k) items f n (before, us, x, (parts, some, leads, fits, bad, stops), at, said) =
+says_refers (RejectedNode k) items f n (before, us, x, (parts, some, leads, fits, bad, stops), at, said) =
     node_refers before us (split items).tokens n f k x fits bad (parts, at) said
 
 pub fault_refers : (items : List Item) (f : FaultText) (n : ℕ) → IsFaultAt schemas (split items) f n → RefersTo (split items).tokens n f

@@ -5,7 +5,7 @@ use Rattle.std.proofs.lemmas.List.{map-id}
 use Rattle.graphql_core.specs.{name_part, Expr, Then, Many, Sym, ParseTree, Both, Node, optional, some_of, row, is_below, IsName, StyleOptions, Part, token}
 use Rattle.graphql_core.specs.{DirectiveTree, no_place, erase_all, directives_layout, has_block_form, in_block_form, string_layout, in_braces, shared}
 use Rattle.graphql_core.specs.{directives_symbol, shared_symbols, punctuator, string_of, block_string_of, spelling_at, directives_of, IsPrintableDirective}
-use Rattle.graphql_core.specs.{directives_brackets, most_enclosed, most, AreLawfulDirectives, optional_of, optional_list_of, each_of, enclosed_of, separated_of}
+use Rattle.graphql_core.specs.{directives_brackets, most_enclosed, most, AreWellFormedDirectives, optional_of, optional_list_of, each_of, enclosed_of, separated_of}
 use Rattle.graphql_core.specs.{joined_of, quoted, name, punctuator_class}
 use Rattle.graphql_core.proofs.{Takes, IsMark, four_back, five_back, six_back, lift_back, Any, means, margin_back, gap_back, then_gap, word_back}
 use Rattle.graphql_core.proofs.{punctuator_back, nothing_back, both_back, first_back, second_back, node_back, stop_back, more_back, three_back, name_word}
@@ -21,8 +21,8 @@ use Rattle.graphql_schema.specs.{enum_value_symbol, schema_grammar, description_
 use Rattle.graphql_schema.specs.{description_layout, inline_layout, later_names, joined_names, interfaces_layout, members_layout, block_layout}
 use Rattle.graphql_schema.specs.{input_value_layout, arguments_layout, input_field_layout, field_layout, enum_value_layout, body_layout, IsPrintableInputValue}
 use Rattle.graphql_schema.specs.{IsPrintableField, IsPrintableEnumValue, ArePrintableParts, IsPrintableBody, input_value_brackets, field_brackets}
-use Rattle.graphql_schema.specs.{enum_value_brackets, parts_brackets, body_brackets, IsLawfulInputValue, IsLawfulField, IsLawfulEnumValue, AreLawfulParts}
-use Rattle.graphql_schema.specs.{IsLawfulBody}
+use Rattle.graphql_schema.specs.{enum_value_brackets, parts_brackets, body_brackets, IsWellFormedInputValue, IsWellFormedField, IsWellFormedEnumValue, AreWellFormedParts}
+use Rattle.graphql_schema.specs.{IsWellFormedBody}
 use Rattle.graphql_schema.proofs.readers.{shares, tested_alike, written_goes_on}
 
 -- what parses back in the shared grammar also parses back in schemas
@@ -79,7 +79,7 @@ members_back (n ∷ ns) d (is, are) =
 pub braces_back : {e : Expr} {p : Bool} {d : ℕ} {lines : List Part} {P R : ParseTree → Type 0} (margin : ℕ) → d < 50
     → Back schema_grammar e false (d + 1) lines false (d + 1) P → ((x y z : ParseTree) → P y → R (Both x (Both y z)))
     → Back schema_grammar (Then (punctuator (codes "{")) (Then e (punctuator (codes "}")))) p d (in_braces margin lines) false d R
-braces_back margin room inside all = in_braces_back margin (λ p. refl) (λ p. refl) room inside all
+braces_back margin capacity inside all = in_braces_back margin (λ p. refl) (λ p. refl) capacity inside all
 
 -- lines, each of which parses back
 module _ {A : Type 0} {one : Expr} (f : ParseTree → A) (erase : A → A) (lines : A → List Part) (P Q : A → Type 0) (brackets : A → ℕ)
@@ -108,10 +108,10 @@ module _ {A : Type 0} {one : Expr} (f : ParseTree → A) (erase : A → A) (line
 -- ---- parts with descriptions, values and directives
 
 module _ (style : StyleOptions) where
-  pub directives_in : (margin : ℕ) (ds : List DirectiveTree) (d : ℕ) → AllByRecursion IsPrintableDirective ds → AreLawfulDirectives ds
+  pub directives_in : (margin : ℕ) (ds : List DirectiveTree) (d : ℕ) → AllByRecursion IsPrintableDirective ds → AreWellFormedDirectives ds
       → d + directives_brackets ds ≤ 50
       → Back schema_grammar (Sym directives_symbol) true d (directives_layout style margin ds) true d (λ x. erase_all (directives_of x) ≡ erase_all ds)
-  directives_in margin ds d is lawful deep = shared_back refl refl (directives_back style margin ds d is lawful deep)
+  directives_in margin ds d is well_formed deep = shared_back refl refl (directives_back style margin ds d is well_formed deep)
 
   form_back : (margin : ℕ) (text : List ℕ) (d : ℕ) (b : Bool) → has_block_form text ≡ b
       → Back schema_grammar (Sym description_symbol) false d (if b then token BlockString (in_block_form (margin + style.indent) margin text)
@@ -139,7 +139,7 @@ module _ (style : StyleOptions) where
 
   -- ---- arguments, fields and values
 
-  input_value_back : (margin : ℕ) (v : InputValueTree) (d : ℕ) → IsPrintableInputValue v → IsLawfulInputValue v → d + input_value_brackets v ≤ 50
+  input_value_back : (margin : ℕ) (v : InputValueTree) (d : ℕ) → IsPrintableInputValue v → IsWellFormedInputValue v → d + input_value_brackets v ≤ 50
       → Back schema_grammar (Sym input_value_symbol) false d (input_value_layout style margin v) true d
       (λ x. erase_input_value (input_value_of x) ≡ erase_input_value v)
   input_value_back margin v d (is, type, default, dir) (defaultlaw, dirlaw) deep =
@@ -152,19 +152,19 @@ module _ (style : StyleOptions) where
       record { position = no_place; description = hx i; name = hy i; value_type = hw i; default_value = hk i; directives = hl i }))
 
   pub argument_definitions_back : (margin : ℕ) (vs : List InputValueTree) (d : ℕ) → AllByRecursion IsPrintableInputValue vs
-      → AllByRecursion IsLawfulInputValue vs → d + most_enclosed input_value_brackets vs ≤ 50
+      → AllByRecursion IsWellFormedInputValue vs → d + most_enclosed input_value_brackets vs ≤ 50
       → Back schema_grammar (optional (Sym argument_definitions_symbol)) true d (arguments_layout style margin vs) true d
       (λ x. map erase_input_value (optional_list_of (enclosed_of input_value_of) x) ≡ map erase_input_value vs)
   argument_definitions_back margin =
-      in_parentheses_back input_value_of erase_input_value (input_value_layout style margin) IsPrintableInputValue IsLawfulInputValue input_value_brackets
+      in_parentheses_back input_value_of erase_input_value (input_value_layout style margin) IsPrintableInputValue IsWellFormedInputValue input_value_brackets
       refl (λ x. refl) (λ p. refl) (λ p. refl) (input_value_back margin)
 
-  input_field_back : (margin : ℕ) (v : InputValueTree) (d : ℕ) → IsPrintableInputValue v → IsLawfulInputValue v → d + input_value_brackets v ≤ 50
+  input_field_back : (margin : ℕ) (v : InputValueTree) (d : ℕ) → IsPrintableInputValue v → IsWellFormedInputValue v → d + input_value_brackets v ≤ 50
       → Back schema_grammar (Sym input_value_symbol) false d (input_field_layout style margin v) false d
       (λ x. erase_input_value (input_value_of x) ≡ erase_input_value v)
   input_field_back margin v d is law deep = margin_back (spaces_blank margin) (then_gap 10 [] refl (input_value_back margin v d is law deep))
 
-  field_back : (margin : ℕ) (v : FieldTree) (d : ℕ) → IsPrintableField v → IsLawfulField v → d + field_brackets v ≤ 50
+  field_back : (margin : ℕ) (v : FieldTree) (d : ℕ) → IsPrintableField v → IsWellFormedField v → d + field_brackets v ≤ 50
       → Back schema_grammar (Sym field_symbol) false d (field_layout style margin v) false d (λ x. erase_field (field_of x) ≡ erase_field v)
   field_back margin v d (is, args, type, dir) (argslaw, dirlaw) deep =
       node_back (λ x. refl) (six_back
@@ -175,7 +175,7 @@ module _ (style : StyleOptions) where
       (λ x y z w k l hx hy hz hw hk hl. λ i.
       record { position = no_place; description = hx i; name = hy i; arguments = hz i; field_type = hk i; directives = hl i }))
 
-  enum_value_back : (margin : ℕ) (v : EnumValueTree) (d : ℕ) → IsPrintableEnumValue v → IsLawfulEnumValue v → d + enum_value_brackets v ≤ 50
+  enum_value_back : (margin : ℕ) (v : EnumValueTree) (d : ℕ) → IsPrintableEnumValue v → IsWellFormedEnumValue v → d + enum_value_brackets v ≤ 50
       → Back schema_grammar (Sym enum_value_symbol) false d (enum_value_layout style margin v) false d
       (λ x. erase_enum_value (enum_value_of x) ≡ erase_enum_value v)
   enum_value_back margin v d (is, dir) dirlaw deep =
@@ -185,15 +185,15 @@ module _ (style : StyleOptions) where
 
   -- ---- types
 
-  fields_back : (fs : List FieldTree) (d : ℕ) → AllByRecursion IsPrintableField fs → AllByRecursion IsLawfulField fs → d + most_enclosed field_brackets fs ≤ 50
+  fields_back : (fs : List FieldTree) (d : ℕ) → AllByRecursion IsPrintableField fs → AllByRecursion IsWellFormedField fs → d + most_enclosed field_brackets fs ≤ 50
       → Back schema_grammar (optional (Sym fields_symbol)) true d (block_layout 0 (field_layout style style.indent) fs) false d
       (λ x. map erase_field (optional_list_of (enclosed_of field_of) x) ≡ map erase_field fs)
   fields_back =
-      block_back field_of erase_field (field_layout style style.indent) IsPrintableField IsLawfulField field_brackets (field_back style.indent)
+      block_back field_of erase_field (field_layout style style.indent) IsPrintableField IsWellFormedField field_brackets (field_back style.indent)
       refl (λ x. refl) 0
 
   parts_back : (n : List ℕ) (ds : List DirectiveTree) (parts : PartsTree) (d : ℕ) → IsName n → AllByRecursion IsPrintableDirective ds
-      → ArePrintableParts parts → AreLawfulDirectives ds → AreLawfulParts parts → d + directives_brackets ds ≤ 50 → d + parts_brackets parts ≤ 50
+      → ArePrintableParts parts → AreWellFormedDirectives ds → AreWellFormedParts parts → d + directives_brackets ds ≤ 50 → d + parts_brackets parts ≤ 50
       → Back schema_grammar (Sym type_body_symbol) false d (body_layout style (record { position = no_place; name = n; directives = ds; parts = parts })) false
       d (λ x. erase_body (body_of x) ≡ record { position = no_place; name = n; directives = erase_all ds; parts = erase_parts parts })
   parts_back n ds scalar d is dir are dirlaw law deep inside =
@@ -220,17 +220,17 @@ module _ (style : StyleOptions) where
       node_back (λ x. refl) (second_back (second_back (second_back (second_back (first_back (node_back (λ x. refl) (four_back {P = Any}
       (word_back (name_word (codes "enum") (refl, refl)) (λ p. refl) (λ t e. tt)) (gap_back refl (named_back n d is))
       (directives_in 0 ds d dir dirlaw deep) (block_back enum_value_of erase_enum_value
-      (enum_value_layout style style.indent) IsPrintableEnumValue IsLawfulEnumValue enum_value_brackets (enum_value_back style.indent)
+      (enum_value_layout style style.indent) IsPrintableEnumValue IsWellFormedEnumValue enum_value_brackets (enum_value_back style.indent)
       refl (λ x. refl) 0 vs d are law inside)
       (λ x y z w hx hy hz hw. λ i. record { position = no_place; name = hy i; directives = hz i; parts = enum (hw i) }))))))))
   parts_back n ds (input fs) d is dir are dirlaw law deep inside =
       node_back (λ x. refl) (second_back (second_back (second_back (second_back (second_back (node_back (λ x. refl) (four_back {P = Any}
       (word_back (name_word (codes "input") (refl, refl)) (λ p. refl) (λ t e. tt)) (gap_back refl (named_back n d is))
       (directives_in 0 ds d dir dirlaw deep) (block_back input_value_of erase_input_value
-      (input_field_layout style style.indent) IsPrintableInputValue IsLawfulInputValue input_value_brackets (input_field_back style.indent)
+      (input_field_layout style style.indent) IsPrintableInputValue IsWellFormedInputValue input_value_brackets (input_field_back style.indent)
       refl (λ x. refl) 0 fs d are law inside)
       (λ x y z w hx hy hz hw. λ i. record { position = no_place; name = hy i; directives = hz i; parts = input (hw i) }))))))))
 
-  pub body_back : (b : BodyTree) (d : ℕ) → IsPrintableBody b → IsLawfulBody b → d + body_brackets b ≤ 50
+  pub body_back : (b : BodyTree) (d : ℕ) → IsPrintableBody b → IsWellFormedBody b → d + body_brackets b ≤ 50
       → Back schema_grammar (Sym type_body_symbol) false d (body_layout style b) false d (λ x. erase_body (body_of x) ≡ erase_body b)
   body_back b d (is, dir, are) (dirlaw, law) deep = parts_back b.name b.directives b.parts d is dir are dirlaw law (omega arith) (omega arith)

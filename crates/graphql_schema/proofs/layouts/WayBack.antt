@@ -2,7 +2,7 @@
 use Rattle.std.proofs.Common.{◌≡◌, ℕ, ◌≤◌, Bool, true, false, not, ◌||◌, cond, List, [], ◌∷◌, ◌++◌, Option, Some, None, is_some, codes, map, refl, sym, ap}
 use Rattle.std.proofs.Common.{ap₂, subst, ◌∙◌, arith, append-nil}
 use Rattle.graphql_core.specs.{name_part, Many, Sym, ParseTree, Both, Node, optional, some_of, row, IsName, StyleOptions, Part, gap, word, directives_of}
-use Rattle.graphql_core.specs.{most_enclosed, no_place, erase_all, AreLawfulDirectives, directives_brackets, directives_layout, has_any, is_there, AreReadBack}
+use Rattle.graphql_core.specs.{most_enclosed, no_place, erase_all, AreWellFormedDirectives, directives_brackets, directives_layout, has_any, is_there, OutputsParseBack}
 use Rattle.graphql_core.proofs.{same_parts, checked_back, seven_back, Any, means, margin_back, gap_back, then_gap, word_back, punctuator_back, nothing_back}
 use Rattle.graphql_core.proofs.{both_back, first_back, second_back, node_back, stop_back, more_back, three_back, name_word, spaces_blank, both_of_each}
 use Rattle.graphql_core.proofs.{some_back, document_back, Back}
@@ -11,8 +11,8 @@ use Rattle.std.specs.Option.{IfSome}
 use Rattle.graphql_schema.specs.{schema_by, schema_of, schema_extension_of, location_at, present, locations_of, directive_definition_of, extension_of, item_of}
 use Rattle.graphql_schema.specs.{Root, root_at, roots_of, roots_in, type_in, RootFault, root_fault, root_fault_of, extension_fault_of, item_symbol, erase_body}
 use Rattle.graphql_schema.specs.{schema_symbol, root_type_symbol, extension_symbol, directive_definition_symbol, locations_symbol, location_symbol}
-use Rattle.graphql_schema.specs.{schema_extension_symbol, roots_symbol, schema_grammar, schemas, IsReadBack, IsLawfulInputValue, IsLawfulBody}
-use Rattle.graphql_schema.specs.{IsLawfulDefinition, IsLawfulDocument, joined_names, root_layout, roots_layout, schema_layout, repeatable_layout}
+use Rattle.graphql_schema.specs.{schema_extension_symbol, roots_symbol, schema_grammar, schemas, ParsesBackTo, IsWellFormedInputValue, IsWellFormedBody}
+use Rattle.graphql_schema.specs.{IsWellFormedDefinition, IsWellFormedDocument, joined_names, root_layout, roots_layout, schema_layout, repeatable_layout}
 use Rattle.graphql_schema.specs.{directive_definition_layout, definition_layout, layout, word_of, location_of, is_location, IsPrintable, IsPrintableSchema}
 use Rattle.graphql_schema.specs.{IsPrintableBody, IsPrintableDefinition, IsWholeDefinition, IsPrintableInputValue, input_value_brackets, body_brackets}
 use Rattle.graphql_schema.specs.{definition_brackets, InputValueTree, SchemaTree, BodyTree, DirectiveDefinitionTree, DefinitionTree, schema, type_definition}
@@ -39,18 +39,18 @@ abbrev HasTypes : (q m s : Option (List ℕ)) → List Root → Type 0
 HasTypes q m s rs = (type_in rs (codes "query") ≡ q) × (type_in rs (codes "mutation") ≡ m) × (type_in rs (codes "subscription") ≡ s)
     × (root_fault [] rs ≡ None)
 
-each_answered : (q m s : Option (List ℕ)) → HasTypes q m s (roots q m s)
-each_answered None None None = (refl, refl, refl, refl)
-each_answered None None (Some s) = (refl, refl, refl, refl)
-each_answered None (Some m) None = (refl, refl, refl, refl)
-each_answered None (Some m) (Some s) = (refl, refl, refl, refl)
-each_answered (Some q) None None = (refl, refl, refl, refl)
-each_answered (Some q) None (Some s) = (refl, refl, refl, refl)
-each_answered (Some q) (Some m) None = (refl, refl, refl, refl)
-each_answered (Some q) (Some m) (Some s) = (refl, refl, refl, refl)
+each_has_types : (q m s : Option (List ℕ)) → HasTypes q m s (roots q m s)
+each_has_types None None None = (refl, refl, refl, refl)
+each_has_types None None (Some s) = (refl, refl, refl, refl)
+each_has_types None (Some m) None = (refl, refl, refl, refl)
+each_has_types None (Some m) (Some s) = (refl, refl, refl, refl)
+each_has_types (Some q) None None = (refl, refl, refl, refl)
+each_has_types (Some q) None (Some s) = (refl, refl, refl, refl)
+each_has_types (Some q) (Some m) None = (refl, refl, refl, refl)
+each_has_types (Some q) (Some m) (Some s) = (refl, refl, refl, refl)
 
 has_types : (q m s : Option (List ℕ)) {rs : List Root} → rs ≡ roots q m s → HasTypes q m s rs
-has_types q m s is = subst (HasTypes q m s) (sym is) (each_answered q m s)
+has_types q m s is = subst (HasTypes q m s) (sym is) (each_has_types q m s)
 
 -- a schema or an extension with these operations is accepted, and parses back
 by_roots : (s : SchemaTree) (w x : ParseTree) {rs : List Root} → erase_all (directives_of x) ≡ erase_all s.directives
@@ -102,7 +102,7 @@ module _ (margin : ℕ) where
 abbrev IsSchema : SchemaTree → ParseTree → Type 0
 IsSchema s x = (root_fault_of x ≡ None) × (erase_schema (schema_of (Node schema_symbol x)) ≡ erase_schema s)
 
-schema_back : (style : StyleOptions) (s : SchemaTree) → IsPrintableSchema s → AreLawfulDirectives s.directives → directives_brackets s.directives ≤ 50
+schema_back : (style : StyleOptions) (s : SchemaTree) → IsPrintableSchema s → AreWellFormedDirectives s.directives → directives_brackets s.directives ≤ 50
     → Back schema_grammar (Sym schema_symbol) false 0 (schema_layout style s) false 0 (λ x. erase_schema (schema_of x) ≡ erase_schema s)
 schema_back style s (ds, q, m, b) law deep =
     checked_back {P = IsSchema s} (λ x p. ap (λ (f : Option RootFault). not (is_some f)) p.0) (λ x p. p.1)
@@ -147,7 +147,7 @@ abbrev IsSchemaExtension : SchemaTree → ParseTree → Type 0
 IsSchemaExtension s x = (extension_fault_of x ≡ None) × (erase_schema (schema_extension_of (Node schema_extension_symbol x)) ≡ erase_schema s)
 
 -- what follows `extend`
-after_extend_back : (style : StyleOptions) (s : SchemaTree) → IsPrintableSchema s → AreLawfulDirectives s.directives → directives_brackets s.directives ≤ 50
+after_extend_back : (style : StyleOptions) (s : SchemaTree) → IsPrintableSchema s → AreWellFormedDirectives s.directives → directives_brackets s.directives ≤ 50
     → Back schema_grammar (Sym schema_extension_symbol) false 0 (name_part (codes "schema") ++ (directives_layout style 0 s.directives
     ++ cond (has_operation s) (roots_layout style s.query s.mutation s.subscription) (gap (codes "\n")))) false 0
     (λ x. erase_schema (schema_extension_of x) ≡ erase_schema s)
@@ -195,7 +195,7 @@ directive_tree s n vs b ls = record { position = no_place; description = s; name
 
 -- what follows the description of a directive
 directive_back : (style : StyleOptions) (s : Option (List ℕ)) (n : List ℕ) (vs : List InputValueTree) (b : Bool) (ls : List DirectiveLocation) → IsName n
-    → AllByRecursion IsPrintableInputValue vs → has_any ls ≡ true → AllByRecursion IsLawfulInputValue vs → most_enclosed input_value_brackets vs ≤ 50
+    → AllByRecursion IsPrintableInputValue vs → has_any ls ≡ true → AllByRecursion IsWellFormedInputValue vs → most_enclosed input_value_brackets vs ≤ 50
     → Back schema_grammar (Sym directive_definition_symbol) false 0 (directive_definition_layout style (directive_tree None n vs b ls)) false 0
     (λ x. (t : Option (List ℕ)) → t ≡ s → erase_directive (directive_definition_of t x) ≡ erase_directive (directive_tree s n vs b ls))
 directive_back style s n vs b [] named are some law deep = absurd cc
@@ -221,7 +221,7 @@ extended_back style t some inside =
     checked_back {P = λ x. erase_definition (extension_of (Node extension_symbol x)) ≡ erase_definition t}
     (λ x p. sym (extends_alike (extension_of (Node extension_symbol x))) ∙ ap extends p ∙ extends_alike t ∙ some) (λ x p. p) inside
 
-extension_back : (style : StyleOptions) (b : BodyTree) → IsPrintableBody b → adds_something b ≡ true → IsLawfulBody b → body_brackets b ≤ 50
+extension_back : (style : StyleOptions) (b : BodyTree) → IsPrintableBody b → adds_something b ≡ true → IsWellFormedBody b → body_brackets b ≤ 50
     → Back schema_grammar (Sym extension_symbol) false 0 (definition_layout style (extension b)) false 0
     (λ x. erase_definition (extension_of x) ≡ extension (erase_body b))
 extension_back style b is some law deep =
@@ -230,7 +230,7 @@ extension_back style b is some law deep =
     (gap_back refl (body_back style b 0 is law (omega arith)))
     (λ w x hw hx. ap extension hx)))
 
-schema_extension_back : (style : StyleOptions) (s : SchemaTree) → IsPrintableSchema s → adds_to_schema s ≡ true → AreLawfulDirectives s.directives
+schema_extension_back : (style : StyleOptions) (s : SchemaTree) → IsPrintableSchema s → adds_to_schema s ≡ true → AreWellFormedDirectives s.directives
     → directives_brackets s.directives ≤ 50
     → Back schema_grammar (Sym extension_symbol) false 0 (definition_layout style (schema_extension s)) false 0
     (λ x. erase_definition (extension_of x) ≡ schema_extension (erase_schema s))
@@ -242,7 +242,7 @@ schema_extension_back style s is some law deep =
 
 -- ---- definitions
 
-definition_back : (style : StyleOptions) (t : DefinitionTree) → IsPrintableDefinition t → IsWholeDefinition t → IsLawfulDefinition t
+definition_back : (style : StyleOptions) (t : DefinitionTree) → IsPrintableDefinition t → IsWholeDefinition t → IsWellFormedDefinition t
     → definition_brackets t ≤ 50
     → Back schema_grammar (Sym item_symbol) false 0 (definition_layout style t) false 0 (λ x. erase_definition (item_of x) ≡ erase_definition t)
 definition_back style (schema t s) is whole law deep =
@@ -263,12 +263,12 @@ definition_back style (directive t) is whole law deep =
 -- ---- documents
 
 -- the layout of a printable document parses back to it, ignoring positions
-pub way_back : (style : StyleOptions) (ts : DocumentTree) → IsPrintable ts → IsLawfulDocument ts → IsReadBack (layout style ts) ts
+pub way_back : (style : StyleOptions) (ts : DocumentTree) → IsPrintable ts → IsWellFormedDocument ts → ParsesBackTo (layout style ts) ts
 way_back style [] is law = absurd cc
 way_back style (t ∷ ts) is law =
     document_back schemas (t ∷ ts) (node_back (λ x. refl) (some_back 0 item_of erase_definition (definition_layout style) IsPrintableDefinition
-    (λ u. IsWholeDefinition u × IsLawfulDefinition u) definition_brackets (λ u p h b. definition_back style u p h.0 h.1 (omega (arith, b))) 10 [] refl t ts
-    is.names (both_of_each IsWholeDefinition IsLawfulDefinition (t ∷ ts) is.definitions law) (omega (arith, is.depth))))
+    (λ u. IsWholeDefinition u × IsWellFormedDefinition u) definition_brackets (λ u p h b. definition_back style u p h.0 h.1 (omega (arith, b))) 10 [] refl t ts
+    is.names (both_of_each IsWholeDefinition IsWellFormedDefinition (t ∷ ts) is.definitions law) (omega (arith, is.depth))))
 
-pub are_read_back : AreReadBack schemas layout (λ d. IsPrintable d × IsLawfulDocument d)
-are_read_back = round.are_read_back schemas readable layout layout_alike (λ d. IsPrintable d × IsLawfulDocument d) (λ style d is. way_back style d is.0 is.1)
+pub parse_back : OutputsParseBack schemas layout (λ d. IsPrintable d × IsWellFormedDocument d)
+parse_back = round.parse_back schemas readable layout layout_alike (λ d. IsPrintable d × IsWellFormedDocument d) (λ style d is. way_back style d is.0 is.1)

@@ -4,10 +4,10 @@ use Rattle.graphql_core.proofs.{sees-apart, Stops-node, sees-within, FailsUnseen
 use Rattle.graphql_core.proofs.{side_nth, sees_both, begun, took, into, past, exit, rest_stops}
 use Rattle.graphql_core.specs.{Token, Class, Expr, Then, Either, Sym, ParseTree, Leaf, First, Second, Node, Both, optional, row, peek, first, written, sees}
 use Rattle.graphql_core.specs.{Takes, takes_both, takes_node, Unexpected, leads_node, StopsFor, TakesToken, any, keyword, tables as shared_tables, unquoted}
-use Rattle.graphql_core.specs.{Refusals, halt_reason, SaysNode, Items, Reads, Consumes}
+use Rattle.graphql_core.specs.{Rejections, halt_reason, SaysNode, Items, Reads, Consumes}
 use Rattle.graphql_core.specs.declared.tokenizer.token.Kind.TheVariants.{StringValue, BlockString}
 use Rattle.graphql_core.specs.declared.common.read.node_error.NodeError.{NodeError}
-use Rattle.graphql_core.specs.declared.common.read.node_error.NodeError.TheVariants.{Stopped, Refused}
+use Rattle.graphql_core.specs.declared.common.read.node_error.NodeError.TheVariants.{Stopped, RejectedNode}
 use Rattle.graphql_schema.specs.{tables, changes, item_symbol, schema_symbol, extension_symbol, schema_extension_symbol, type_body_symbol}
 use Rattle.graphql_schema.specs.{directive_definition_symbol, directive_definition_rule, description_symbol, directive_definition_of, DirectiveDefinitionTree}
 use Rattle.graphql_schema.specs.{schemas, keywords, kind_word, sees_definition, sees_description, symbol_of}
@@ -152,10 +152,10 @@ of_body k {mid = mid} lead seen =
     of_type k (into lead side) seen
 
 -- a node inside a node is rejected, or reading stops in it
-module _ {R : Type 0} (w : Refusals R) where
+module _ {R : Type 0} (w : Rejections R) where
   node_says : (k : ℕ) (old new : Items) (d : NodeError R) → SaysNode schemas w (row reading k).rule old new d → SaysNode schemas w (Sym k) old new d
   node_says k old new (Stopped s) said = tt
-  node_says k old new (Refused n) (before, x, (p, ne, led, fits, bad, stops), said) = (before, x, (p, ne, leads_node led, fits, bad, stops), said)
+  node_says k old new (RejectedNode n) (before, x, (p, ne, led, fits, bad, stops), said) = (before, x, (p, ne, leads_node led, fits, bad, stops), said)
 
   pub node_halts : {A B : Type 0} {f : Expr} {inside : ParseTree → ParseTree} (k : ℕ) (old mid new : Items) (P : A → ParseTree → Type 0)
       (Q : B → ParseTree → Type 0) (r : Result B (NodeError R)) (d : NodeError R)

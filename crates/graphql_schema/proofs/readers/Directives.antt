@@ -14,11 +14,11 @@ use Rattle.graphql_schema.proofs.readers.Lifted.{reading}
 
 -- the location that is returned
 pub named : (E : Type 0) (o : Option DirectiveLocation) (l : DirectiveLocation) → IsNamed {E = E} o (Ok l) → o ≡ Some l
-named E (Some m) l h = ap answer (sym h)
+named E (Some m) l h = ap found_location (sym h)
   where
-    answer : Result DirectiveLocation E → Option DirectiveLocation
-    answer (Ok x) = Some x
-    answer (Err e) = None
+    found_location : Result DirectiveLocation E → Option DirectiveLocation
+    found_location (Ok x) = Some x
+    found_location (Err e) = None
 named E None l h = absurd cc
 
 -- an error, if there is no location
@@ -45,8 +45,8 @@ module _ {T : Type 0} (bytes : T → List ℕ) (i : Items) where
 
   module _ (t : Lexeme T) (n : IsNext bytes Name i t) where
     -- the next token is a name, but no location
-    pub location_refused : is_location (bytes t.text) ≡ false → StopsFor reading (Sym location_symbol) i i (Some (Improper location_class))
-    location_refused bad = (
+    pub location_rejected : is_location (bytes t.text) ≡ false → StopsFor reading (Sym location_symbol) i i (Some (Improper location_class))
+    location_rejected bad = (
       subst (λ (ts : List Token). Fails reading (Sym location_symbol) ts (Improper location_class) ts) (sym n.first)
           (fails_node (fails_value (next_matches bytes Name i t n) bad)),
       refl,

@@ -7,14 +7,14 @@ use Rattle.graphql_core.proofs.{sees-within, spelling_differs}
 use Rattle.graphql_schema.specs.declared.read.keyword.TypeKind.TheVariants.{Scalar, Object, Interface, Union, Enum, InputObject}
 use Rattle.graphql_schema.specs.declared.read.keyword.Keyword.{Keyword}
 use Rattle.graphql_schema.specs.declared.read.keyword.Keyword.TheVariants.{Schema, OfType, Directive}
-use Rattle.graphql_schema.specs.{class_of, keywords, TellsToken, Tells}
+use Rattle.graphql_schema.specs.{class_of, keywords, HasKeyword, HasNextKeyword}
 
 -- a token with another spelling
 other_word : (k : ℕ) (w : List ℕ) (t : Token) → w ≢ t.spelling → matches (Spelled k w) t ≡ false
 other_word k w t h = rw (spelling_differs w t.spelling h) (and-false _)
 
 pub no_word : (t : Token) → codes "schema" ≢ t.spelling → codes "scalar" ≢ t.spelling → codes "type" ≢ t.spelling → codes "interface" ≢ t.spelling
-    → codes "union" ≢ t.spelling → codes "enum" ≢ t.spelling → codes "input" ≢ t.spelling → codes "directive" ≢ t.spelling → TellsToken t None
+    → codes "union" ≢ t.spelling → codes "enum" ≢ t.spelling → codes "input" ≢ t.spelling → codes "directive" ≢ t.spelling → HasKeyword t None
 no_word t a b c d e f g h = rw (
   other_word _ _ t a,
   other_word _ _ t b,
@@ -37,7 +37,7 @@ is_keyword (OfType Enum) = refl
 is_keyword (OfType InputObject) = refl
 is_keyword Directive = refl
 
-pub keyword_is_seen : (i : Items) (told : Option Keyword) → Tells i told → is_some told ≡ sees keywords (peek i.tokens)
+pub keyword_is_seen : (i : Items) (stated : Option Keyword) → HasNextKeyword i stated → is_some stated ≡ sees keywords (peek i.tokens)
 keyword_is_seen i None h = sym h
 keyword_is_seen i (Some k) h =
     sym (true_from_ne_false _ (λ none. both_ways _ (sees-within (class_of k ∷ []) keywords (peek i.tokens) (is_keyword k) none) h))

@@ -5,7 +5,7 @@ use Rattle.std.proofs.lemmas.Bool.{both_ways, cases_Bool, and_parts}
 use Rattle.graphql_core.proofs.{each_is_factored, IsFactored-head, unchanged_then, with_more, alone_before}
 use Rattle.graphql_core.proofs.{IsFactored-sides, none_there, shared_rows, one_cause}
 use Rattle.graphql_core.specs.{Grammar, Token, Class, Spelled, AnyOf, Except, Expr, Empty, One, Then, Either, Many, Sym, ParseTree, Row, row, row_at, optional}
-use Rattle.graphql_core.specs.{leaves, Fits, fits_both, fits_leaf, fits_first, fits_second, with_tables, EachIsFactored, change_at, written, RefusesTokens}
+use Rattle.graphql_core.specs.{leaves, Fits, fits_both, fits_leaf, fits_first, fits_second, with_tables, EachIsFactored, change_at, written, RejectsTokens}
 use Rattle.graphql_core.specs.{Extends, TestsAlike, CauseText, FaultText, shared, tables as core_tables, shared_symbols, word, unquoted, is_good as leaves_good}
 use Rattle.graphql_core.specs.{reading, IsReadable}
 use Rattle.std.proofs.lemmas.Bool.Decides.{nat_tests}
@@ -111,8 +111,8 @@ either_has_token : (c : Class) (a b : Expr) (x : ParseTree) → Fits schema_gram
 either_has_token c a b _ (fits_first h) empty = has_token c a _ h empty
 either_has_token c a b _ (fits_second h) empty = has_token c b _ h empty
 
-refuses_tokens : RefusesTokens schema_grammar
-refuses_tokens k x fits refused empty = elim (cases_Bool (k == schema_symbol)) [
+rejects_tokens : RejectsTokens schema_grammar
+rejects_tokens k x fits rejected empty = elim (cases_Bool (k == schema_symbol)) [
   | inl e ↦
       let is : k ≡ schema_symbol = grind (arith, nat_tests) in
       has_token _ _ x (subst (λ (j : ℕ). Fits schema_grammar (row schema_grammar j).rule x) is fits) empty
@@ -126,7 +126,7 @@ refuses_tokens k x fits refused empty = elim (cases_Bool (k == schema_symbol)) [
           has_token _ _ x (subst (λ (j : ℕ). Fits schema_grammar (row schema_grammar j).rule x) is fits) empty
       | inr e'' ↦
           let passed : passes k x ≡ true = rw (e, e', e'') refl in
-          absurd (both_ways (passes k x) refused passed)
+          absurd (both_ways (passes k x) rejected passed)
     ]
   ]
 ]
@@ -160,7 +160,7 @@ readable = record {
   lacks = λ k t c h. h;
   location = λ t h. (none_there (location_of t.spelling) h, refl);
   one_cause = one_lack;
-  refuses_tokens = refuses_tokens;
+  rejects_tokens = rejects_tokens;
   passes = λ x. refl;
   one_said = λ node f g h w. same_fault (said_of node) f g h w;
 }

@@ -34,8 +34,8 @@ fault_last before (q ∷ qs) r =
     ∙ ap (λ (l : List Root). option_or (root_fault before (q ∷ qs)) (fault_after l r)) (append_assoc before (q ∷ []) qs)
 
 -- the error of an operation, by whether it is one of the three, and whether it appeared before
-abbrev pub told : Bool → Bool → List ℕ → Option RootFault
-told known twice n = if not known then Some (unknown n) else if twice then Some (duplicate n) else None
+abbrev pub name_fault : Bool → Bool → List ℕ → Option RootFault
+name_fault known twice n = if not known then Some (unknown n) else if twice then Some (duplicate n) else None
 
 -- ---- lists of operations, with another at the end
 
@@ -111,7 +111,7 @@ module _ {N T : Type 0} (bytes : T → List ℕ) where
       → option_map cause_text w.cause ≡ Some (unknown_operation r.name) → HasRoots bytes w (rs ++ r ∷ [])
   roots_unknown v w rs r h other k is =
       let more : root_fault [] (rs ++ r ∷ []) ≡ Some (unknown r.name) =
-      one_more v rs r h k ∙ ap (λ (b : Bool). told b (is_some (type_in rs r.name)) r.name) other in
+      one_more v rs r h k ∙ ap (λ (b : Bool). name_fault b (is_some (type_in rs r.name)) r.name) other in
       record {
         cause = is ∙ ap (option_map root_cause) (sym more);
         query = λ n. none_some (unknown r.name) (sym n ∙ more);
@@ -125,9 +125,9 @@ module _ {N T : Type 0} (bytes : T → List ℕ) where
       → IsAdded bytes w is new (rs ++ record { name = w; type_name = bytes t } ∷ [])
   filled w v is old new t rs self known h k types fills = go old types fills
     where
-      more : root_fault [] (rs ++ record { name = w; type_name = bytes t } ∷ []) ≡ told true (is_some (type_in rs w)) w
+      more : root_fault [] (rs ++ record { name = w; type_name = bytes t } ∷ []) ≡ name_fault true (is_some (type_in rs w)) w
       more =
-          one_more v rs (record { name = w; type_name = bytes t }) h k ∙ ap (λ (b : Bool). told b (is_some (type_in rs w)) w) known
+          one_more v rs (record { name = w; type_name = bytes t }) h k ∙ ap (λ (b : Bool). name_fault b (is_some (type_in rs w)) w) known
 
       last : type_in (rs ++ record { name = w; type_name = bytes t } ∷ []) w ≡ option_or (type_in rs w) (Some (bytes t))
       last = type_last rs (record { name = w; type_name = bytes t }) w ∙ ap (λ (b : Bool). option_or (type_in rs w) (cond b (Some (bytes t)) None)) self
@@ -136,11 +136,11 @@ module _ {N T : Type 0} (bytes : T → List ℕ) where
           → IsAdded bytes w is new (rs ++ record { name = w; type_name = bytes t } ∷ [])
       go None types (filled, same) = (
         ap (option_map cause_text) same ∙ k.cause
-            ∙ ap (option_map root_cause) (faultless v rs h k ∙ sym (more ∙ ap (λ (o : Option (List ℕ)). told true (is_some o) w) (sym types))),
+            ∙ ap (option_map root_cause) (faultless v rs h k ∙ sym (more ∙ ap (λ (o : Option (List ℕ)). name_fault true (is_some o) w) (sym types))),
         ap (option_map bytes) filled ∙ sym (last ∙ ap (λ (o : Option (List ℕ)). option_or o (Some (bytes t))) (sym types)),
       )
       go (Some x) types (stays, cause) = (
-        cause ∙ ap (option_map root_cause) (sym (more ∙ ap (λ (o : Option (List ℕ)). told true (is_some o) w) (sym types))),
+        cause ∙ ap (option_map root_cause) (sym (more ∙ ap (λ (o : Option (List ℕ)). name_fault true (is_some o) w) (sym types))),
         ap (option_map bytes) stays ∙ sym (last ∙ ap (λ (o : Option (List ℕ)). option_or o (Some (bytes t))) (sym types)),
       )
 
@@ -173,22 +173,22 @@ roots_begin = record { something = refl; first = refl }
 -- ---- the whole schema, or the extension
 
 -- an error with this cause at this position
-abbrev told_at : CauseText → Place → FaultText
-told_at c p = record { cause = c; place = p }
+abbrev fault_at_place : CauseText → Place → FaultText
+fault_at_place c p = record { cause = c; place = p }
 
 -- if an operation is wrong, its error is reported
-pub fault_told : (w : Option Cause) (u : Cause) (o : Option RootFault) (p q : Place) → w ≡ Some u → p ≡ q
+pub fault_stated : (w : Option Cause) (u : Cause) (o : Option RootFault) (p q : Place) → w ≡ Some u → p ≡ q
     → option_map cause_text w ≡ option_map root_cause o
     → (not (is_some o) ≡ false)
-    × (option_map (λ (f : RootFault). told_at (root_cause f) p) o ≡ Some (told_at (cause_text u) q))
-fault_told w u None p q is at e = none_some _ (sym e ∙ ap (option_map cause_text) is)
-fault_told w u (Some f) p q is at e = (
+    × (option_map (λ (f : RootFault). fault_at_place (root_cause f) p) o ≡ Some (fault_at_place (cause_text u) q))
+fault_stated w u None p q is at e = none_some _ (sym e ∙ ap (option_map cause_text) is)
+fault_stated w u (Some f) p q is at e = (
   refl,
-  ap (option_map (λ (c : CauseText). told_at c p)) (sym e ∙ ap (option_map cause_text) is) ∙ ap (λ r. Some (told_at (cause_text u) r)) at,
+  ap (option_map (λ (c : CauseText). fault_at_place c p)) (sym e ∙ ap (option_map cause_text) is) ∙ ap (λ r. Some (fault_at_place (cause_text u) r)) at,
 )
 
 -- if no operation is wrong, no error is reported
-pub none_told : (w : Option Cause) (o : Option RootFault) → w ≡ None → option_map cause_text w ≡ option_map root_cause o
+pub none_stated : (w : Option Cause) (o : Option RootFault) → w ≡ None → option_map cause_text w ≡ option_map root_cause o
     → (not (is_some o) ≡ true) × (o ≡ None)
-none_told w None is e = (refl, refl)
-none_told w (Some f) is e = none_some _ (sym (ap (option_map cause_text) is) ∙ e)
+none_stated w None is e = (refl, refl)
+none_stated w (Some f) is e = none_some _ (sym (ap (option_map cause_text) is) ∙ e)

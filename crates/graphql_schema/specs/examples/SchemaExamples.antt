@@ -1,6 +1,6 @@
 -- The documents of some small inputs, how these documents are formatted, and where other inputs are rejected.
 use Rattle.std.specs.Prelude.{◌≡◌, ℕ, true, List, [], ◌∷◌, Option, Some, None, codes}
-use Rattle.graphql_core.specs.{with_indent, with_multiline, Place, Sym, IsLeast, Reason, Unexpected, Improper, Refused}
+use Rattle.graphql_core.specs.{with_indent, with_multiline, Place, Sym, IsLeast, Reason, Unexpected, Improper, RejectedNode}
 use Rattle.graphql_core.specs.{StyleOptions, default_style, Item, HasItems, split, numbered, named, location_class}
 use Rattle.graphql_core.specs.{variable}
 use Rattle.graphql_schema.specs.Tree.{EnumValueTree, SchemaTree, PartsTree, object, union, enum, schema, empty_schema}
@@ -130,29 +130,29 @@ IsLeastAt text why n = (items : List Item) × HasItems text items
     × IsLeast schema_grammar (Sym document_symbol) (numbered (split items)) why n
 
 -- where some small inputs are rejected
-pub record WorkedRefusals : Type 0 where
+pub record WorkedErrors : Type 0 where
   -- an unknown operation, at the closing brace
-  pub unknown_root : IsLeastAt (codes "schema { foo: A }") (Refused schema_symbol) 6
+  pub unknown_root : IsLeastAt (codes "schema { foo: A }") (RejectedNode schema_symbol) 6
   -- a duplicate operation
-  pub duplicate_root : IsLeastAt (codes "schema { query: A query: B foo: C }") (Refused schema_symbol) 12
+  pub duplicate_root : IsLeastAt (codes "schema { query: A query: B foo: C }") (RejectedNode schema_symbol) 12
   -- a duplicate operation without the closing brace: the end is the error
   pub open_schema : IsLeastAt (codes "schema { query: A query: B") Unexpected 9
   -- an error after a rejected schema is ignored
-  pub later_fault : IsLeastAt (codes "schema { foo: A } scalar A !") (Refused schema_symbol) 6
+  pub later_fault : IsLeastAt (codes "schema { foo: A } scalar A !") (RejectedNode schema_symbol) 6
   -- an extension that adds nothing, before the invalid token after it
-  pub bare_extension : IsLeastAt (codes "extend scalar A ;") (Refused extension_symbol) 3
+  pub bare_extension : IsLeastAt (codes "extend scalar A ;") (RejectedNode extension_symbol) 3
   -- the same for an extension of the schema
-  pub bare_schema_extension : IsLeastAt (codes "extend schema ;") (Refused extension_symbol) 2
+  pub bare_schema_extension : IsLeastAt (codes "extend schema ;") (RejectedNode extension_symbol) 2
   -- the same before a schema
-  pub schema_twice : IsLeastAt (codes "extend schema schema { query: A }") (Refused extension_symbol) 2
+  pub schema_twice : IsLeastAt (codes "extend schema schema { query: A }") (RejectedNode extension_symbol) 2
   -- the braces of an extension must hold an operation
   pub no_operations : IsLeastAt (codes "extend schema {}") Unexpected 4
   -- the operations of an extension are checked like those of a schema
-  pub duplicate_extension : IsLeastAt (codes "extend schema { query: A query: B }") (Refused schema_extension_symbol) 10
+  pub duplicate_extension : IsLeastAt (codes "extend schema { query: A query: B }") (RejectedNode schema_extension_symbol) 10
   -- a schema with a description is rejected like one without
-  pub unknown_described : IsLeastAt (codes "\"d\" schema { foo: A }") (Refused schema_symbol) 7
+  pub unknown_described : IsLeastAt (codes "\"d\" schema { foo: A }") (RejectedNode schema_symbol) 7
   -- interfaces alone do not extend an interface
-  pub interface_alone : IsLeastAt (codes "extend interface A implements B") (Refused extension_symbol) 5
+  pub interface_alone : IsLeastAt (codes "extend interface A implements B") (RejectedNode extension_symbol) 5
   -- an extension with an incomplete directive
   pub open_extension : IsLeastAt (codes "extend scalar A @") Unexpected 5
   -- interfaces without `&` between them

@@ -33,14 +33,14 @@ keywords =
     ∷ keyword (codes "union") ∷ keyword (codes "enum") ∷ keyword (codes "input") ∷ keyword (codes "directive") ∷ []
 
 -- the token is this keyword, or none of them
-abbrev pub TellsToken : Token → Option Keyword → Type 0
-TellsToken t (Some k) = matches (class_of k) t ≡ true
-TellsToken t None = in_any keywords t ≡ false
+abbrev pub HasKeyword : Token → Option Keyword → Type 0
+HasKeyword t (Some k) = matches (class_of k) t ≡ true
+HasKeyword t None = in_any keywords t ≡ false
 
 -- this keyword is next, or none of them is
-abbrev pub Tells : Items → Option Keyword → Type 0
-Tells i (Some k) = sees_class (class_of k) i ≡ true
-Tells i None = sees keywords (peek i.tokens) ≡ false
+abbrev pub HasNextKeyword : Items → Option Keyword → Type 0
+HasNextKeyword i (Some k) = sees_class (class_of k) i ≡ true
+HasNextKeyword i None = sees keywords (peek i.tokens) ≡ false
 
 -- the next token can begin a definition
 abbrev pub sees_definition : Items → Bool

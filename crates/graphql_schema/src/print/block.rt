@@ -27,7 +27,7 @@ pub fn write_block<S: Sink, P: Pretty>(
     requires { margin + most_enclosed (P.opens style.now) parts.now * style.now.indent < 2 ^ 32 }
     ensures text { OnOk result (S.took out.old
         (text_of (block_layout margin (P.lines style.now (margin + style.now.indent)) parts.now)) out.new) }
-    ensures lawful { OnOk result (AllByRecursion P.lawful parts.now) }
+    ensures well_formed { OnOk result (AllByRecursion P.well_formed parts.now) }
 {
     if parts.is_empty() {
         return out.push_str("\n");

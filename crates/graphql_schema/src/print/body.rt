@@ -1,5 +1,5 @@
 //! The common part of a type definition and a type extension: keyword, name, directives and parts.
-ghost use Rattle.graphql_schema.specs.Lawful.{IsLawfulBody, IsLawfulDefinition};
+ghost use Rattle.graphql_schema.specs.WellFormed.{IsWellFormedBody, IsWellFormedDefinition};
 ghost use Rattle.graphql_schema.specs.Layout.{body_layout, body_levels, definition_layout, definition_levels};
 ghost use Rattle.graphql_schema.specs.steps.Body.{body_seen, outline_seen};
 
@@ -27,7 +27,7 @@ impl<'a, N: Names> Pretty for Body<'a, N> {
 
     ghost opens = { λ style b. body_levels style (body_seen N.bytes b) };
 
-    ghost lawful = { λ b. IsLawfulBody (body_seen N.bytes b) };
+    ghost well_formed = { λ b. IsWellFormedBody (body_seen N.bytes b) };
 
     fn levels(&self, style: &Style) -> usize {
         levels_in_directives(self.directives, style).max(self.parts.levels(style))
@@ -56,7 +56,7 @@ impl<'a, N: Names> Pretty for Outline<'a, N> {
 
     ghost opens = { λ style o. definition_levels style (outline_seen N.bytes o) };
 
-    ghost lawful = { λ o. IsLawfulDefinition (outline_seen N.bytes o) };
+    ghost well_formed = { λ o. IsWellFormedDefinition (outline_seen N.bytes o) };
 
     fn levels(&self, style: &Style) -> usize {
         match self {

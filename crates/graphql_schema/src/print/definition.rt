@@ -1,5 +1,6 @@
 //! Formatting directive definitions, definitions and documents.
-ghost use Rattle.graphql_schema.specs.{IsLawfulDefinition, IsLawfulDocument, definition_layout, document_layout};
+ghost use Rattle.graphql_schema.specs.{IsWellFormedDefinition, IsWellFormedDocument, definition_layout};
+ghost use Rattle.graphql_schema.specs.{document_layout};
 ghost use Rattle.graphql_schema.specs.{definition_levels, levels, directive, directive_definition_view};
 ghost use Rattle.graphql_schema.specs.{definition_view, document_view};
 
@@ -16,7 +17,7 @@ impl<N: Names> Pretty for DirectiveDefinition<N> {
 
     ghost opens = { λ style d. definition_levels style (directive (directive_definition_view N.bytes d)) };
 
-    ghost lawful = { λ d. IsLawfulDefinition (directive (directive_definition_view N.bytes d)) };
+    ghost well_formed = { λ d. IsWellFormedDefinition (directive (directive_definition_view N.bytes d)) };
 
     fn levels(&self, style: &Style) -> usize {
         levels_in_description(&self.description).max(levels_in_each(&self.arguments, style))
@@ -38,7 +39,7 @@ impl<N: Names> Pretty for Definition<N> {
 
     ghost opens = { λ style d. definition_levels style (definition_view N.bytes d) };
 
-    ghost lawful = { λ d. IsLawfulDefinition (definition_view N.bytes d) };
+    ghost well_formed = { λ d. IsWellFormedDefinition (definition_view N.bytes d) };
 
     fn levels(&self, style: &Style) -> usize {
         match self {
@@ -71,7 +72,7 @@ impl<N: Names> Pretty for Document<N> {
 
     ghost opens = { λ style d. levels style (document_view N.bytes d) };
 
-    ghost lawful = { λ d. IsLawfulDocument (document_view N.bytes d) };
+    ghost well_formed = { λ d. IsWellFormedDocument (document_view N.bytes d) };
 
     fn levels(&self, style: &Style) -> usize {
         levels_in_each(&self.definitions, style)

@@ -2,7 +2,8 @@
 ghost use Rattle.std.specs.Prelude.{◌+◌, ◌*◌, ◌^◌, ◌<◌, OnOk, map};
 ghost use Rattle.graphql_core.specs.{text_of, most};
 ghost use Rattle.std.specs.List.{AllByRecursion};
-ghost use Rattle.graphql_schema.specs.{IsLawfulInputValue, IsLawfulField, IsLawfulEnumValue, arguments_layout};
+ghost use Rattle.graphql_schema.specs.{IsWellFormedInputValue, IsWellFormedField, IsWellFormedEnumValue};
+ghost use Rattle.graphql_schema.specs.{arguments_layout};
 ghost use Rattle.graphql_schema.specs.{input_value_layout, field_layout, enum_value_layout, input_value_levels};
 ghost use Rattle.graphql_schema.specs.{field_levels, enum_value_levels, input_value_view, field_view, enum_value_view};
 
@@ -23,7 +24,7 @@ impl<N: Names> Pretty for InputValue<N> {
 
     ghost opens = { λ style v. input_value_levels style (input_value_view N.bytes v) };
 
-    ghost lawful = { λ v. IsLawfulInputValue (input_value_view N.bytes v) };
+    ghost well_formed = { λ v. IsWellFormedInputValue (input_value_view N.bytes v) };
 
     fn levels(&self, style: &Style) -> usize {
         let default_value = levels_in_default(&self.default_value, style);
@@ -54,7 +55,8 @@ pub fn write_arguments<S: Sink, N: Names>(
         < 2 ^ 32 }
     ensures text { OnOk result (S.took out.old
         (text_of (arguments_layout style.now margin (map (input_value_view N.bytes) arguments.now))) out.new) }
-    ensures lawful { OnOk result (AllByRecursion IsLawfulInputValue (map (input_value_view N.bytes) arguments.now)) }
+    ensures well_formed { OnOk result
+        (AllByRecursion IsWellFormedInputValue (map (input_value_view N.bytes) arguments.now)) }
 {
     if arguments.is_empty() {
         return Ok(());
@@ -69,7 +71,7 @@ impl<N: Names> Pretty for Field<N> {
 
     ghost opens = { λ style f. field_levels style (field_view N.bytes f) };
 
-    ghost lawful = { λ f. IsLawfulField (field_view N.bytes f) };
+    ghost well_formed = { λ f. IsWellFormedField (field_view N.bytes f) };
 
     fn levels(&self, style: &Style) -> usize {
         let arguments = levels_in_each(&self.arguments, style);
@@ -95,7 +97,7 @@ impl<N: Names> Pretty for EnumValue<N> {
 
     ghost opens = { λ style v. enum_value_levels style (enum_value_view N.bytes v) };
 
-    ghost lawful = { λ v. IsLawfulEnumValue (enum_value_view N.bytes v) };
+    ghost well_formed = { λ v. IsWellFormedEnumValue (enum_value_view N.bytes v) };
 
     fn levels(&self, style: &Style) -> usize {
         levels_in_description(&self.description).max(levels_in_directives(&self.directives, style))

@@ -2,7 +2,7 @@
 ghost use Rattle.std.specs.Prelude.{◌≡◌, ◌++◌, ◌*◌, ◌+◌, ◌^◌, ◌<◌, OnOk, codes, map};
 ghost use Rattle.graphql_core.specs.{text_of, most, most_enclosed};
 ghost use Rattle.std.specs.List.{AllByRecursion, flat_map};
-ghost use Rattle.graphql_schema.specs.Lawful.{AreLawfulParts, IsLawfulInputValue};
+ghost use Rattle.graphql_schema.specs.WellFormed.{AreWellFormedParts, IsWellFormedInputValue};
 ghost use Rattle.graphql_schema.specs.Layout.{keyword, interfaces, parts_layout, parts_levels, block_layout};
 ghost use Rattle.graphql_schema.specs.Layout.{input_field_layout, input_value_levels};
 ghost use Rattle.graphql_schema.specs.Views.{input_value_view};
@@ -66,7 +66,8 @@ fn write_input_fields<S: Sink, N: Names>(
         + most (input_value_levels style.now) (map (input_value_view N.bytes) fields.now) * style.now.indent < 2 ^ 32 }
     ensures text { OnOk result (S.took out.old (text_of
         (flat_map (input_field_layout style.now margin) (map (input_value_view N.bytes) fields.now))) out.new) }
-    ensures lawful { OnOk result (AllByRecursion IsLawfulInputValue (map (input_value_view N.bytes) fields.now)) }
+    ensures well_formed { OnOk result
+        (AllByRecursion IsWellFormedInputValue (map (input_value_view N.bytes) fields.now)) }
 {
     'fields: for field in fields {
         write_spaces(out, margin)?;
@@ -87,7 +88,8 @@ fn write_input_block<S: Sink, N: Names>(
     ensures text { OnOk result (S.took out.old (text_of
         (block_layout 0 (input_field_layout style.now style.now.indent) (map (input_value_view N.bytes) fields.now)))
         out.new) }
-    ensures lawful { OnOk result (AllByRecursion IsLawfulInputValue (map (input_value_view N.bytes) fields.now)) }
+    ensures well_formed { OnOk result
+        (AllByRecursion IsWellFormedInputValue (map (input_value_view N.bytes) fields.now)) }
 {
     if fields.is_empty() {
         return out.push_str("\n");
@@ -103,7 +105,7 @@ impl<'a, N: Names> Pretty for Parts<'a, N> {
 
     ghost opens = { λ style p. parts_levels style (parts_seen N.bytes p) };
 
-    ghost lawful = { λ p. AreLawfulParts (parts_seen N.bytes p) };
+    ghost well_formed = { λ p. AreWellFormedParts (parts_seen N.bytes p) };
 
     fn levels(&self, style: &Style) -> usize {
         match self {

@@ -1,7 +1,7 @@
 //! Formatting schema definitions and extensions of the schema.
 ghost use Rattle.std.specs.Prelude.{◌≡◌, OnOk, option_map};
 ghost use Rattle.graphql_core.specs.{text_of};
-ghost use Rattle.graphql_schema.specs.{IsLawfulDefinition, root_layout, roots_layout, definition_layout};
+ghost use Rattle.graphql_schema.specs.{IsWellFormedDefinition, root_layout, roots_layout, definition_layout};
 ghost use Rattle.graphql_schema.specs.{definition_levels, schema_extension, has_operation, schema_definition_view};
 ghost use Rattle.graphql_schema.specs.{schema_extension_view};
 
@@ -56,7 +56,7 @@ impl<N: Names> Pretty for SchemaDefinition<N> {
 
     ghost opens = { λ style s. definition_levels style (schema_definition_view N.bytes s) };
 
-    ghost lawful = { λ s. IsLawfulDefinition (schema_definition_view N.bytes s) };
+    ghost well_formed = { λ s. IsWellFormedDefinition (schema_definition_view N.bytes s) };
 
     fn levels(&self, style: &Style) -> usize {
         let described = levels_in_description(&self.description);
@@ -82,7 +82,7 @@ impl<N: Names> Pretty for SchemaExtension<N> {
 
     ghost opens = { λ style s. definition_levels style (schema_extension (schema_extension_view N.bytes s)) };
 
-    ghost lawful = { λ s. IsLawfulDefinition (schema_extension (schema_extension_view N.bytes s)) };
+    ghost well_formed = { λ s. IsWellFormedDefinition (schema_extension (schema_extension_view N.bytes s)) };
 
     fn levels(&self, style: &Style) -> usize {
         let operations = if has_operation(self) { 1 } else { 0 };

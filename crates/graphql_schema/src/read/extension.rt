@@ -40,14 +40,14 @@ pub fn extension<S: TokenSource>(
         Some(Keyword::Schema) => {
             let extension = schema_extension(alloc, source)?;
             if !adds_to_schema(&extension) {
-                return Err(NodeError::Refused(InvalidNode::Extension(extension.position)));
+                return Err(NodeError::RejectedNode(InvalidNode::Extension(extension.position)));
             }
             Ok(Definition::SchemaExtension(extension))
         }
         Some(Keyword::OfType(kind)) => {
             let body = type_body(alloc, source, kind, scratch)?;
             if !body.adds_something() {
-                return Err(NodeError::Refused(InvalidNode::Extension(body.position)));
+                return Err(NodeError::RejectedNode(InvalidNode::Extension(body.position)));
             }
             Ok(Definition::TypeExtension(body.into_extension()))
         }

@@ -1,7 +1,7 @@
 //! Rejected nodes.
 ghost use Rattle.std.specs.Prelude.{◌≡◌};
 ghost use Rattle.graphql_core.specs.{at};
-ghost use Rattle.graphql_schema.specs.steps.Refusals.{fault_said};
+ghost use Rattle.graphql_schema.specs.steps.Rejections.{fault_said};
 
 use graphql_core::common::{Cause, Fault};
 use graphql_core::position::Pos;

@@ -1,7 +1,7 @@
 //! The keywords that begin definitions.
 ghost use Rattle.std.specs.Prelude.{◌≡◌};
 ghost use Rattle.graphql_core.specs.{peek, sees, lexeme_token};
-ghost use Rattle.graphql_schema.specs.steps.Keywords.{kind_word, has_interfaces, keywords, TellsToken, Tells};
+ghost use Rattle.graphql_schema.specs.steps.Keywords.{kind_word, has_interfaces, keywords, HasKeyword, HasNextKeyword};
 
 use graphql_core::helpers::{Lexeme, TokenSource};
 use graphql_core::tokenizer::Kind;
@@ -51,7 +51,7 @@ pub enum Keyword {
 
 /// The token as a definition keyword; `None` if it is another token.
 fn keyword_of<S: TokenSource>(token: &Lexeme<S::Text>) -> Option<Keyword>
-    ensures { TellsToken (lexeme_token S.bytes token.now) result }
+    ensures { HasKeyword (lexeme_token S.bytes token.now) result }
 {
     if token.kind != Kind::Name {
         return None;
@@ -71,7 +71,7 @@ fn keyword_of<S: TokenSource>(token: &Lexeme<S::Text>) -> Option<Keyword>
 
 /// The next token as a definition keyword; `None` if it is another token.
 pub fn peek_keyword<S: TokenSource>(source: &S) -> Option<Keyword>
-    ensures { Tells (S.items source.now) result }
+    ensures { HasNextKeyword (S.items source.now) result }
 {
     match source.peek() {
         Some(token) => keyword_of::<S>(&token),

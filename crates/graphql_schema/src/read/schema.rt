@@ -6,7 +6,7 @@ ghost use Rattle.graphql_schema.specs.Grammar.{schema_symbol, root_type_symbol, 
 ghost use Rattle.graphql_schema.specs.Meanings.{schema_of, schema_extension_of};
 ghost use Rattle.graphql_schema.specs.Views.{schema_view, schema_extension_view};
 ghost use Rattle.graphql_schema.specs.steps.Readers.{Reads};
-ghost use Rattle.graphql_schema.specs.steps.Refusals.{ReadsNode};
+ghost use Rattle.graphql_schema.specs.steps.Rejections.{ReadsNode};
 ghost use Rattle.graphql_schema.specs.steps.RootsRead.{HasRoots, Fills};
 
 use crate::read::invalid_node::InvalidNode;
@@ -145,7 +145,7 @@ pub fn schema_definition<S: TokenSource>(
         cause,
     } = roots;
     match cause {
-        Some(cause) => Err(NodeError::Refused(InvalidNode::Schema(cause, position))),
+        Some(cause) => Err(NodeError::RejectedNode(InvalidNode::Schema(cause, position))),
         None => Ok(SchemaDefinition {
             position,
             description: None,
@@ -195,7 +195,7 @@ pub fn schema_extension<S: TokenSource>(
         cause,
     } = optional_roots(alloc, source)?;
     match cause {
-        Some(cause) => Err(NodeError::Refused(InvalidNode::SchemaExtension(cause, position))),
+        Some(cause) => Err(NodeError::RejectedNode(InvalidNode::SchemaExtension(cause, position))),
         None => Ok(SchemaExtension {
             position,
             directives,

@@ -5,10 +5,10 @@ use Rattle.graphql_core.specs.declared.tokenizer.piece.Nesting.TheVariants.{Unch
 use Rattle.graphql_core.specs.{front}
 use Rattle.graphql_core.specs.steps.Front.{FrontElement, AtEnd, Skips, Takes, Stops}
 use Rattle.graphql_core.specs.steps.Ahead.{ignored_front, taken}
-use Rattle.graphql_core.specs.lexical.Lexical.{Meaning, Ignored, TokenOf, Stands, BeginsNone, Piece}
-use Rattle.graphql_core.proofs.lexical.FrontIsPiece.{ahead_of, stands_front}
+use Rattle.graphql_core.specs.lexical.Lexical.{Meaning, Ignored, TokenOf, IsLexicalElement, BeginsNone, Piece}
+use Rattle.graphql_core.proofs.lexical.FrontIsPiece.{ahead_of, element_at_front}
 use Rattle.graphql_core.proofs.lexical.FrontFits.{PieceFits, front_within}
-use Rattle.graphql_core.proofs.lexical.OneCut.{Sees, front_sees}
+use Rattle.graphql_core.proofs.lexical.OneTokenization.{Sees, front_sees}
 use Rattle.graphql_core.proofs.lexical.Elements.{begins_none}
 use Rattle.graphql_standard.specs.lexical.Elements.{IsEither, number_element, BeginsNoneOf, IsDividedInto}
 use Rattle.graphql_standard.specs.steps.Numbers.{number_front}
@@ -25,8 +25,8 @@ fits_some : (text : List ℕ) (m : Meaning) (n : ℕ) → PieceFits text (ahead_
 fits_some text (Ignored m) n (part, _) = part.0
 fits_some text (TokenOf k t) n part = part.0
 
-pub some_bytes : {bytes : List ℕ} {m : Meaning} {rest : List ℕ} → Stands bytes m rest → 0 < length bytes
-some_bytes {bytes} {m} {rest} st = fits_some (bytes ++ rest) m (length bytes) (subst (PieceFits (bytes ++ rest)) (stands_front st) (front_within (bytes ++ rest)))
+pub some_bytes : {bytes : List ℕ} {m : Meaning} {rest : List ℕ} → IsLexicalElement bytes m rest → 0 < length bytes
+some_bytes {bytes} {m} {rest} st = fits_some (bytes ++ rest) m (length bytes) (subst (PieceFits (bytes ++ rest)) (element_at_front st) (front_within (bytes ++ rest)))
 
 by_number : (text : List ℕ) (o : Option (ℕ × Kind)) → number_front text ≡ o → BeginsNone text → First text
 by_number text None e none = nothing (none_begins text none (no_number_begins text e))

@@ -14,15 +14,15 @@ use Rattle.graphql_core.specs.declared.tokenizer.element.ElementKind.{ElementKin
 use Rattle.graphql_core.specs.declared.tokenizer.element.ElementKind.TheVariants as element
 use Rattle.graphql_core.specs.lexical.Elements.{element_kind}
 use Rattle.graphql_core.specs.declared.tokenizer.piece.Nesting.TheVariants.{Unchanged}
-use Rattle.graphql_core.specs.strings.Strings.{StandsFor, itself, escaped_quote, escaped_backslash, escaped_slash, escaped_backspace}
+use Rattle.graphql_core.specs.strings.Strings.{Denotes, itself, escaped_quote, escaped_backslash, escaped_slash, escaped_backspace}
 use Rattle.graphql_core.specs.strings.Strings.{escaped_form_feed, escaped_line_feed, escaped_carriage_return, escaped_tab, escaped_unicode}
-use Rattle.graphql_core.specs.{front, Meaning, Ignored, TokenOf, Stands, BeginsNone}
+use Rattle.graphql_core.specs.{front, Meaning, Ignored, TokenOf, IsLexicalElement, BeginsNone}
 use Rattle.graphql_core.specs.lexical.Lexical.{is_name_start, is_punctuator_byte, EndsRun, ignored_tab, ignored_line_feed, ignored_carriage_return, ignored_space, ignored_comma}
 use Rattle.graphql_core.specs.lexical.Lexical.{ignored_byte_order_mark, comment_at_end, comment_feed, comment_return_feed, comment_return, name_token, punctuator_token}
 use Rattle.graphql_core.specs.lexical.Lexical.{spread_token, integer_token, float_token, string_token, block_string_token, body_ends, body_character, body_escape}
 use Rattle.graphql_core.specs.lexical.Lexical as core
 use Rattle.graphql_core.specs.steps.Numbers.{starts_number}
-use Rattle.graphql_core.proofs.lexical.FrontIsPiece.{ahead_of, stands_front}
+use Rattle.graphql_core.proofs.lexical.FrontIsPiece.{ahead_of, element_at_front}
 use Rattle.graphql_standard.specs.lexical.Numbers.{IsNumber, EndsNumber, int_value, float_value}
 use Rattle.graphql_standard.specs.lexical.Strings.{IsEscape, plain_escape, braced_escape, paired_escape}
 use Rattle.graphql_standard.specs.lexical.Strings.{source_character, escaped_character, HasStringValue, no_characters, character_then, IsStringBody}
@@ -66,7 +66,7 @@ letter_body b escape more h e k =
     let same : b ∷ [] ≡ escape = cc in
     subst (λ (l : List ℕ). core.IsStringBody (92 ∷ (l ++ more))) same (body_escape h k)
 
-plain_escape_body : {unit bytes : List ℕ} → StandsFor unit bytes → (escape more : List ℕ) → unit ≡ 92 ∷ escape → core.IsStringBody more
+plain_escape_body : {unit bytes : List ℕ} → Denotes unit bytes → (escape more : List ℕ) → unit ≡ 92 ∷ escape → core.IsStringBody more
     → core.IsStringBody (92 ∷ (escape ++ more))
 plain_escape_body (itself b h) escape more e k = let first : b ≡ 92 = cc in absurd (h first)
 plain_escape_body escaped_quote escape more e k = letter_body 34 escape more (λ h. omega arith) e k
@@ -108,7 +108,7 @@ string_body body (value, v) = value_body v
 -- ---- an element of September 2025 is one of `graphql_core`, or a number
 
 pub data InCore (bytes : List ℕ) (m : Meaning) (rest : List ℕ) : Type 0 where
-  in_core : Stands bytes m rest → InCore bytes m rest
+  in_core : IsLexicalElement bytes m rest → InCore bytes m rest
   a_number : (k : Kind) → IsNumber k bytes → EndsNumber rest → m ≡ TokenOf k Unchanged → InCore bytes m rest
 
 pub element_in_core : {bytes : List ℕ} {m : Meaning} {rest : List ℕ} → IsElement bytes m rest → InCore bytes m rest
@@ -149,7 +149,7 @@ from_core : (k : Kind) (bytes rest : List ℕ) → FromCore k bytes rest → End
 from_core k bytes rest (is_number n _) ends = the_number k n (ends_number rest ends) refl
 from_core k bytes rest (is_bare _ none) ends = no_number none
 
-pub core_front : {bytes : List ℕ} {m : Meaning} {rest : List ℕ} → Stands bytes m rest → CoreFront bytes m rest
+pub core_front : {bytes : List ℕ} {m : Meaning} {rest : List ℕ} → IsLexicalElement bytes m rest → CoreFront bytes m rest
 core_front ignored_tab = no_number (no_number_front 9 _ refl)
 core_front ignored_line_feed = no_number (no_number_front 10 _ refl)
 core_front ignored_carriage_return = no_number (no_number_front 13 _ refl)
@@ -189,9 +189,9 @@ same_parts a b r s m k e l same = record {
   rest = sym (drop_at a r (length a) refl) ∙ ap (drop (length a)) e ∙ drop_at b s (length a) (sym l);
 }
 
-same_core : (a b r s : List ℕ) (m k : Meaning) → a ++ r ≡ b ++ s → Stands a m r → Stands b k s → Same a b r s m k
+same_core : (a b r s : List ℕ) (m k : Meaning) → a ++ r ≡ b ++ s → IsLexicalElement a m r → IsLexicalElement b k s → Same a b r s m k
 same_core a b r s m k e st su =
-    let (same, l) = same_ahead m k (length a) (length b) (sym (stands_front st) ∙ ap front e ∙ stands_front su) in
+    let (same, l) = same_ahead m k (length a) (length b) (sym (element_at_front st) ∙ ap front e ∙ element_at_front su) in
     same_parts a b r s m k e l same
 
 same_numbers : (a b r s : List ℕ) (m k : Meaning) (i j : Kind) → a ++ r ≡ b ++ s → IsNumber i a → EndsNumber r → m ≡ TokenOf i Unchanged
@@ -232,7 +232,7 @@ same_bodies xs ys e =
     let l : length ys ≡ length xs = omega arith in
     sym (take_at xs (34 ∷ []) (length xs) refl) ∙ ap (take (length xs)) inner ∙ take_at ys (34 ∷ []) (length xs) l
 
-token_standard : {bytes rest : List ℕ} {n : Nesting} (k : Kind) → Stands bytes (TokenOf k n) rest → IsStandardToken k bytes → IsElement bytes (TokenOf k n) rest
+token_standard : {bytes rest : List ℕ} {n : Nesting} (k : Kind) → IsLexicalElement bytes (TokenOf k n) rest → IsStandardToken k bytes → IsElement bytes (TokenOf k n) rest
 token_standard Punctuator st h = shared_element refl st
 token_standard Name st h = shared_element refl st
 token_standard BlockString st h = shared_element refl st
@@ -240,7 +240,7 @@ token_standard IntValue (integer_token {run} {rest} is ends) h = numbered IntVal
 token_standard FloatValue (float_token {run} {rest} is ends) h = numbered FloatValue run rest (from_float is rest ends) h (ends_number rest ends)
 token_standard StringValue (string_token body valid some) (inner, is, h) = string_element (subst IsStringBody (sym (same_bodies body inner is)) h) some
 
-pub standard_from : {bytes rest : List ℕ} (m : Meaning) (kind : ElementKind) → Stands bytes m rest → element_kind bytes m ≡ kind → IsStandardSpelling kind bytes
+pub standard_from : {bytes rest : List ℕ} (m : Meaning) (kind : ElementKind) → IsLexicalElement bytes m rest → element_kind bytes m ≡ kind → IsStandardSpelling kind bytes
     → IsElement bytes m rest
 standard_from (Ignored m) kind st is h = shared_element refl st
 standard_from {bytes} (TokenOf k n) kind st is h = token_standard k st (subst (λ (x : ElementKind). IsStandardSpelling x bytes) (sym is) h)
@@ -267,7 +267,7 @@ standard_spelling (shared_element {bytes} {m} h st) = shared_spelling bytes m h
 standard_spelling (number_element n ends) = number_spelling n (number_ends n)
 standard_spelling (string_element {body} h some) = (body, refl, h)
 
-pub other_from : (text bytes rest : List ℕ) (m : Meaning) (kind : ElementKind) → text ≡ bytes ++ rest → Stands bytes m rest → element_kind bytes m ≡ kind
+pub other_from : (text bytes rest : List ℕ) (m : Meaning) (kind : ElementKind) → text ≡ bytes ++ rest → IsLexicalElement bytes m rest → element_kind bytes m ≡ kind
     → (IsStandardSpelling kind bytes → ⊥) → BeginsNoneOf IsElement text
 other_from text bytes rest m kind e st is other b k s h f =
     let same = same_element text e f (inr st) (inl h) in

@@ -12,7 +12,7 @@ use Rattle.std.proofs.lemmas.Bool.Decides.{nat_tests}
 use Rattle.std.proofs.lemmas.List.{take_at, drop_at, get_or-append_right}
 use Rattle.std.proofs.lemmas.Str.{IsCharBoundary-after_ascii, encode_ascii, char_from_byte}
 use Rattle.std.proofs.lemmas.Str.Parse.{without_leading_plus_none}
-use Rattle.graphql_core.specs.strings.Strings.{NamesCharacter, StandsFor, itself, escaped_quote, escaped_backslash, escaped_slash, escaped_backspace}
+use Rattle.graphql_core.specs.strings.Strings.{NamesCharacter, Denotes, itself, escaped_quote, escaped_backslash, escaped_slash, escaped_backspace}
 use Rattle.graphql_core.specs.strings.Strings.{escaped_form_feed, escaped_line_feed, escaped_carriage_return, escaped_tab, escaped_unicode}
 use Rattle.graphql_core.proofs.strings.Escapes.{all_digits, four_digits}
 use Rattle.graphql_standard.specs.lexical.Strings.{IsHexadecimal, IsFourDigits, is_leading, is_trailing, IsEscape, plain_escape, braced_escape, paired_escape}
@@ -117,7 +117,7 @@ data Kinds (e : List ℕ) (c : ℕ) : Type 0 where
 rest_of : (b : ℕ) (u e : List ℕ) → b ∷ u ≡ 92 ∷ e → e ≡ u
 rest_of b u e h = cc
 
-plain_kind : {u v : List ℕ} → StandsFor u v → (e : List ℕ) (c : ℕ) → u ≡ 92 ∷ e → Kinds e c
+plain_kind : {u v : List ℕ} → Denotes u v → (e : List ℕ) (c : ℕ) → u ≡ 92 ∷ e → Kinds e c
 plain_kind (itself b h) e c is = let first : b ≡ 92 = cc in absurd (h first)
 plain_kind escaped_quote e c is = letter 34 refl (rest_of 92 (34 ∷ []) e is)
 plain_kind escaped_backslash e c is = letter 92 refl (rest_of 92 (92 ∷ []) e is)
@@ -339,7 +339,7 @@ no_escape_other text rest c e h1 h2 h3 h4 h5 h6 h7 h8 h9 escape after d s at =
     no_start c h1 h2 h3 h4 h5 h6 h7 h8 h9 (subst (λ (k : ℕ). (is_letter k || k == 117) ≡ true) (sym same) b.starts)
 
 -- an escape of October 2021
-pub plain_begins : (text after : List ℕ) (c : ℕ) → (escape : List ℕ) × StandsFor (92 ∷ escape) (encode_utf8 c) × (text ≡ escape ++ after) → BeginsEscape text c after
+pub plain_begins : (text after : List ℕ) (c : ℕ) → (escape : List ℕ) × Denotes (92 ∷ escape) (encode_utf8 c) × (text ≡ escape ++ after) → BeginsEscape text c after
 plain_begins text after c (escape, s, is) = (escape, plain_escape s, is)
 
 pub u_front : (text rest : List ℕ) → text ≡ encode_utf8 117 ++ rest → text ≡ 117 ∷ rest

@@ -3,9 +3,9 @@ use Rattle.std.proofs.Common.{◌≡◌, ◌≢◌, slice_index, ℕ, List, [], 
 use Rattle.graphql_core.specs.declared.tokenizer.token.Kind.{Kind}
 use Rattle.graphql_core.specs.declared.tokenizer.token.Kind.TheVariants.{StringValue}
 use Rattle.graphql_core.specs.declared.tokenizer.piece.Nesting.{Nesting}
-use Rattle.graphql_core.specs.lexical.Lexical.{Meaning, TokenOf, Stands, EndsRun, integer_token, float_token, string_token, Piece}
+use Rattle.graphql_core.specs.lexical.Lexical.{Meaning, TokenOf, IsLexicalElement, EndsRun, integer_token, float_token, string_token, Piece}
 use Rattle.graphql_core.specs.steps.Following.{MayFollow}
-use Rattle.graphql_core.proofs.{stands_before}
+use Rattle.graphql_core.proofs.{token_before}
 use Rattle.graphql_standard.specs.lexical.Numbers.{IsNumber, EndsNumber, int_value, float_value}
 use Rattle.graphql_standard.specs.lexical.Elements.{LexicalGrammar, BeginsNoneOf, IsDividedInto, IsElement, shared_element, number_element, string_element, IsEither}
 use Rattle.graphql_standard.proofs.lexical.CoreNumbers.{ends_number}
@@ -22,36 +22,36 @@ number_before more (float_value h) f = ends_number more f
 -- a token of September 2025 stays one, if what follows can follow a token of its kind
 pub element_before : {bytes : List ℕ} {k : Kind} {n : Nesting} {rest : List ℕ} → IsElement bytes (TokenOf k n) rest → (more : List ℕ) → MayFollow k more
     → IsElement bytes (TokenOf k n) more
-element_before (shared_element h st) more f = shared_element h (stands_before st more f)
+element_before (shared_element h st) more f = shared_element h (token_before st more f)
 element_before (number_element n ends) more f = number_element n (number_before more n f)
 element_before (string_element h some) more f = string_element h (λ _. f)
 
 pub either_before : {bytes : List ℕ} {k : Kind} {n : Nesting} {rest : List ℕ} → IsEither bytes (TokenOf k n) rest → (more : List ℕ) → MayFollow k more
     → IsEither bytes (TokenOf k n) more
 either_before (inl h) more f = inl (element_before h more f)
-either_before (inr st) more f = inr (stands_before st more f)
+either_before (inr st) more f = inr (token_before st more f)
 
 -- what follows a token of `graphql_core`, as far as the token needs it
-run_ends : {bytes rest : List ℕ} {n : Nesting} {k : Kind} {number : List ℕ} → IsNumber k number → Stands bytes (TokenOf k n) rest → EndsRun rest
+run_ends : {bytes rest : List ℕ} {n : Nesting} {k : Kind} {number : List ℕ} → IsNumber k number → IsLexicalElement bytes (TokenOf k n) rest → EndsRun rest
 run_ends (int_value h) (integer_token is ends) = ends
 run_ends (float_value h) (float_token is ends) = ends
 
 -- an empty string is not followed by a quote
-no_quote : {bytes rest : List ℕ} {n : Nesting} → Stands bytes (TokenOf StringValue n) rest → (body : List ℕ) → bytes ≡ 34 ∷ (body ++ 34 ∷ []) → body ≡ []
+no_quote : {bytes rest : List ℕ} {n : Nesting} → IsLexicalElement bytes (TokenOf StringValue n) rest → (body : List ℕ) → bytes ≡ 34 ∷ (body ++ 34 ∷ []) → body ≡ []
     → slice_index rest 0 ≢ 34
 no_quote (string_token inner valid some) body e none = some (same_bodies inner body e ∙ none)
 
 -- a token of both grammars before one rest is a token of September 2025 before another where it is one of `graphql_core`
-pub element_back : {bytes : List ℕ} {m : Meaning} {rest : List ℕ} → IsElement bytes m rest → (more : List ℕ) → Stands bytes m more → IsElement bytes m more
+pub element_back : {bytes : List ℕ} {m : Meaning} {rest : List ℕ} → IsElement bytes m rest → (more : List ℕ) → IsLexicalElement bytes m more → IsElement bytes m more
 element_back (shared_element h st) more su = shared_element h su
 element_back (number_element n ends) more su = number_element n (ends_number more (run_ends n su))
 element_back (string_element {body} h some) more su = string_element h (λ e. no_quote su body refl e)
 
 -- a token that only `graphql_core` reads stays one
-pub other_before : {bytes : List ℕ} {k : Kind} {n : Nesting} {rest : List ℕ} → Stands bytes (TokenOf k n) rest → BeginsNoneOf IsElement (bytes ++ rest)
+pub other_before : {bytes : List ℕ} {k : Kind} {n : Nesting} {rest : List ℕ} → IsLexicalElement bytes (TokenOf k n) rest → BeginsNoneOf IsElement (bytes ++ rest)
     → (more : List ℕ) → MayFollow k more → BeginsNoneOf IsElement (bytes ++ more)
 other_before {bytes} {k} {n} {rest} st none more f b m r h e =
-    let same = same_element (bytes ++ more) refl e (inr (stands_before st more f)) (inl h) in
+    let same = same_element (bytes ++ more) refl e (inr (token_before st more f)) (inl h) in
     let there = subst (λ (x : List ℕ). IsElement x m r) (sym same.bytes) h in
     let as_token = subst (λ (x : Meaning). IsElement bytes x r) (sym same.meaning) there in
     none bytes (TokenOf k n) rest (element_back as_token rest st) refl

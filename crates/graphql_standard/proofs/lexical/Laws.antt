@@ -3,11 +3,11 @@ use Rattle.std.proofs.Common.{◌≡◌, ℕ, true, List, [], ◌∷◌, ◌++�
 use Rattle.graphql_core.specs.declared.tokenizer.token.Kind.{Kind}
 use Rattle.graphql_core.specs.declared.tokenizer.token.Kind.TheVariants.{Punctuator, Name, IntValue, FloatValue, StringValue, BlockString}
 use Rattle.graphql_core.specs.declared.tokenizer.piece.Nesting.{Nesting}
-use Rattle.graphql_core.specs.lexical.Lexical.{Meaning, TokenOf, Stands, string_token, Piece, IsCutInto}
+use Rattle.graphql_core.specs.lexical.Lexical.{Meaning, TokenOf, IsLexicalElement, string_token, Piece, IsTokenizedInto}
 use Rattle.graphql_core.specs.steps.Following.{MayFollow}
 use Rattle.graphql_core.specs.{Place, kind_number}
 use Rattle.graphql_core.specs.sources.Minified.{is_spaced, space_if}
-use Rattle.graphql_core.proofs.{stands_before, token_follows}
+use Rattle.graphql_core.proofs.{token_before, token_follows}
 use Rattle.graphql_standard.specs.lexical.Numbers.{IsNumber, int_value, float_value}
 use Rattle.graphql_standard.specs.lexical.Elements.{LexicalGrammar, BeginsNoneOf, IsDividedInto, is_shared, IsElement, IsEither}
 use Rattle.graphql_standard.specs.lexical.Elements.{shared_element, number_element, string_element}
@@ -17,16 +17,16 @@ use Rattle.graphql_standard.proofs.lexical.Following.{element_before, either_bef
 -- A lexical grammar has the shared elements, and others only of either grammar. A token stays one before all input that
 -- can follow a token of its kind.
 pub record LexicalLaws (E : LexicalGrammar) : Type 0 where
-  pub shared : (bytes : List ℕ) (m : Meaning) (rest : List ℕ) → is_shared m ≡ true → Stands bytes m rest → E bytes m rest
+  pub shared : (bytes : List ℕ) (m : Meaning) (rest : List ℕ) → is_shared m ≡ true → IsLexicalElement bytes m rest → E bytes m rest
   pub either : (bytes : List ℕ) (m : Meaning) (rest : List ℕ) → E bytes m rest → IsEither bytes m rest
   pub before : (bytes : List ℕ) (k : Kind) (n : Nesting) (rest more : List ℕ) → E bytes (TokenOf k n) rest → MayFollow k more
       → E bytes (TokenOf k n) more
 
-pub core_laws : LexicalLaws Stands
+pub core_laws : LexicalLaws IsLexicalElement
 core_laws = record {
   shared = λ bytes m rest h st. st;
   either = λ bytes m rest st. inr st;
-  before = λ bytes k n rest more st f. stands_before st more f;
+  before = λ bytes k n rest more st f. token_before st more f;
 }
 
 pub standard_laws : LexicalLaws IsElement
@@ -46,7 +46,7 @@ either_laws = record {
 -- ---- elements of either grammar
 
 -- a shared element is one of `graphql_core`
-pub shared_in_core : {bytes : List ℕ} {m : Meaning} {rest : List ℕ} → is_shared m ≡ true → IsEither bytes m rest → Stands bytes m rest
+pub shared_in_core : {bytes : List ℕ} {m : Meaning} {rest : List ℕ} → is_shared m ≡ true → IsEither bytes m rest → IsLexicalElement bytes m rest
 shared_in_core h (inl (shared_element is st)) = st
 shared_in_core h (inl (number_element (int_value is) ends)) = absurd cc
 shared_in_core h (inl (number_element (float_value is) ends)) = absurd cc
@@ -92,10 +92,10 @@ module _ {E : LexicalGrammar} (laws : LexicalLaws E) where
   pub same_division : (text : List ℕ) (ps qs : List Piece) → IsDividedInto E text ps [] → IsDividedInto IsEither text qs [] → ps ≡ qs
   same_division text ps qs own other = (one_either_division text ps qs [] [] (division_of_either text ps [] own refl) other).0
 
-pub core_division : (text : List ℕ) (ps : List Piece) (s : List ℕ) → IsCutInto text ps s → IsDividedInto Stands text ps s
-core_division text [] s cut = cut
+pub core_division : (text : List ℕ) (ps : List Piece) (s : List ℕ) → IsTokenizedInto text ps s → IsDividedInto IsLexicalElement text ps s
+core_division text [] s tokenized = tokenized
 core_division text (p ∷ ps) s (rest, e, st, more) = (rest, e, st, core_division rest ps s more)
 
-pub division_in_core : (text : List ℕ) (ps : List Piece) (s : List ℕ) → IsDividedInto Stands text ps s → IsCutInto text ps s
+pub division_in_core : (text : List ℕ) (ps : List Piece) (s : List ℕ) → IsDividedInto IsLexicalElement text ps s → IsTokenizedInto text ps s
 division_in_core text [] s division = division
 division_in_core text (p ∷ ps) s (rest, e, st, more) = (rest, e, st, division_in_core rest ps s more)

@@ -3,7 +3,7 @@ use Rattle.std.specs.Prelude.{ℕ, List, [], ◌∷◌, ◌++◌, codes}
 use Rattle.graphql_core.specs.declared.tokenizer.token.Kind.{Kind}
 use Rattle.graphql_core.specs.declared.tokenizer.token.Kind.TheVariants.{IntValue, FloatValue, StringValue, BlockString}
 use Rattle.graphql_core.specs.declared.tokenizer.piece.Nesting.TheVariants.{Unchanged}
-use Rattle.graphql_core.specs.lexical.Lexical.{TokenOf, Stands}
+use Rattle.graphql_core.specs.lexical.Lexical.{TokenOf, IsLexicalElement}
 use Rattle.graphql_standard.specs.lexical.Strings.{HasStringValue}
 use Rattle.graphql_standard.specs.lexical.Elements.{IsElement, IsEither, BeginsNoneOf}
 
@@ -16,7 +16,7 @@ IsOneToken kind text = BeginsToken kind text []
 
 -- the input is a token of `graphql_core`, and no element of September 2025 begins it
 abbrev IsOnlyInCore : Kind → List ℕ → Type 0
-IsOnlyInCore kind text = Stands text (TokenOf kind Unchanged) [] × BeginsNoneOf IsElement text
+IsOnlyInCore kind text = IsLexicalElement text (TokenOf kind Unchanged) [] × BeginsNoneOf IsElement text
 
 abbrev pub in_quotes : List ℕ → List ℕ
 in_quotes body = 34 ∷ (body ++ 34 ∷ [])

@@ -5,7 +5,7 @@ use Rattle.graphql_core.specs.declared.tokenizer.token.Kind.TheVariants.{Punctua
 use Rattle.graphql_core.specs.declared.tokenizer.token.Kind.TheVariants.{StringValue, BlockString}
 use Rattle.graphql_core.specs.declared.tokenizer.piece.Nesting.TheVariants.{Unchanged}
 use Rattle.graphql_core.specs.declared.tokenizer.element.ElementKind.{ElementKind}
-use Rattle.graphql_core.specs.lexical.Lexical.{Meaning, Ignored, TokenOf, Stands, Piece}
+use Rattle.graphql_core.specs.lexical.Lexical.{Meaning, Ignored, TokenOf, IsLexicalElement, Piece}
 use Rattle.graphql_core.specs.lexical.Elements.{element_kind}
 use Rattle.graphql_standard.specs.lexical.Numbers.{IsNumber, EndsNumber}
 use Rattle.graphql_standard.specs.lexical.Strings.{IsStringBody}
@@ -44,7 +44,7 @@ is_shared (TokenOf k n) = is_shared_kind k
 
 -- the lexical grammar of September 2025
 pub data IsElement : List ℕ → Meaning → List ℕ → Type 0 where
-  shared_element : {bytes : List ℕ} {m : Meaning} {rest : List ℕ} → is_shared m ≡ true → Stands bytes m rest
+  shared_element : {bytes : List ℕ} {m : Meaning} {rest : List ℕ} → is_shared m ≡ true → IsLexicalElement bytes m rest
       → IsElement bytes m rest
   number_element : {bytes : List ℕ} {k : Kind} {rest : List ℕ} → IsNumber k bytes → EndsNumber rest
       → IsElement bytes (TokenOf k Unchanged) rest
@@ -54,4 +54,4 @@ pub data IsElement : List ℕ → Meaning → List ℕ → Type 0 where
 
 -- an element of September 2025, or of the grammar of `graphql_core`
 abbrev pub IsEither : List ℕ → Meaning → List ℕ → Type 0
-IsEither bytes m rest = IsElement bytes m rest ⊎ Stands bytes m rest
+IsEither bytes m rest = IsElement bytes m rest ⊎ IsLexicalElement bytes m rest

@@ -4,7 +4,7 @@ use Rattle.std.specs.List.{list_all}
 use Rattle.std.specs.Char.{encode_utf8, IsScalar, is_ascii_hexdigit}
 use Rattle.std.specs.Str.Parse.{digits_value}
 use Rattle.graphql_core.specs.lexical.Lexical.{is_in}
-use Rattle.graphql_core.specs.strings.Strings.{StandsFor}
+use Rattle.graphql_core.specs.strings.Strings.{Denotes}
 
 -- hexadecimal digits with this value
 pub record IsHexadecimal (digits : List ℕ) (value : ℕ) : Type 0 where
@@ -30,7 +30,7 @@ paired leading trailing = (leading - 55296) * 1024 + (trailing - 56320) + 65536
 -- October 2021 has escapes of one letter, and of `u` and four digits that name a character.
 -- September 2025 also has `u` and digits in braces, and two escapes that are a leading and a trailing surrogate.
 pub data IsEscape : List ℕ → ℕ → Type 0 where
-  plain_escape : {escape : List ℕ} {c : ℕ} → StandsFor (92 ∷ escape) (encode_utf8 c) → IsEscape escape c
+  plain_escape : {escape : List ℕ} {c : ℕ} → Denotes (92 ∷ escape) (encode_utf8 c) → IsEscape escape c
   braced_escape : (digits : List ℕ) {c : ℕ} → digits ≢ [] → IsHexadecimal digits c → IsScalar c
       → IsEscape (117 ∷ 123 ∷ (digits ++ 125 ∷ [])) c
   paired_escape : (leading trailing : List ℕ) {l t : ℕ} → IsFourDigits leading l → is_leading l ≡ true

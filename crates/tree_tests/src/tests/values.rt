@@ -62,7 +62,7 @@ fn numbers(rt: HostRuntime) {
 }
 
 #[test]
-fn tokens_and_bad_places_are_shown_and_compared(rt: HostRuntime) {
+fn tokens_and_lexical_errors_are_shown_and_compared(rt: HostRuntime) {
     let (kind, other) = (Kind::Name, Kind::BlockString);
     let name = Token { kind, value: "a" };
     let copy = name;

@@ -17,7 +17,7 @@ pieces-preserved g c =
     let len : length c.extend_from_slice.new.self.items ≡ length c.pieces.bytes.items + length (take n c.read.new.buf) =
     rw grown (length-append c.pieces.bytes.items (take n c.read.new.buf)) in
     record {
-      room = omega arith;
+      capacity = omega arith;
       faults_stay = faults ∙ before.faults_stay;
       each_one = omega (arith, len, length-take n c.read.new.buf, bound, before.each_one);
       taken = rw grown (Consumes-trans _ _ _ c.pieces.bytes.items (take n c.read.new.buf) before.taken bytes.0);

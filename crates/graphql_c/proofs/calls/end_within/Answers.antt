@@ -1,7 +1,7 @@
 use Rattle.std.proofs.Common.{◌<◌, ◌≡◌, ◌∙◌, length, drop, Some, ap, arith}
 use Rattle.std.proofs.lemmas.Bool.Decides.{nat_tests}
-use Rattle.graphql_core.specs.{Refusal}
-use Rattle.graphql_c.proofs.{ends_once, is_memory, rest_at, still_at}
+use Rattle.graphql_core.specs.{ParseFailure}
+use Rattle.graphql_c.proofs.{ends_once, cause_is_out_of_memory, rest_at, still_at}
 use Rattle.graphql_c.proofs.calls.end_within.Goals as goal
 
 pub returns-in-Ok-clause-complete : goal.returns-in-Ok-clause-complete
@@ -24,5 +24,5 @@ returns c = record {
   sound = tt;
   complete = λ n short at some.
       let none = c.in-Err.ensures.complete (at.1, drop n c.args.front.now) short at.2 in
-      absurd (c.in_default.not-OutOfMemory (is_memory _ (c.cause.ensures ∙ ap (λ (e : Refusal). e.cause) none)));
+      absurd (c.in_default.not-OutOfMemory (cause_is_out_of_memory _ (c.cause.ensures ∙ ap (λ (e : ParseFailure). e.cause) none)));
 }

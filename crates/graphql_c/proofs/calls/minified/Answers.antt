@@ -1,7 +1,7 @@
 use Rattle.std.proofs.Common.{◌∙◌, subst}
-use Rattle.graphql_query.specs.{IsMinifyRefusalOf}
+use Rattle.graphql_query.specs.{IsMinifyErrorOf}
 use Rattle.graphql_c.specs.{ran_out}
-use Rattle.graphql_c.proofs.{halts, explains_as, refused_at}
+use Rattle.graphql_c.proofs.{halts, explains_as, rejected_at}
 use Rattle.graphql_c.proofs.calls.minified.Goals as goal
 
 pub returns-in_err-text_of : goal.returns-in_err-text_of
@@ -13,5 +13,5 @@ returns-in_default c = explains_as c.out_of_memory.ensures ran_out
 pub returns-in-Err : goal.returns-in-Err
 returns-in-Err c =
     let same = c.in-Ok.ensures.ok ∙ c.in_ok-text_of.ensures.0 in
-    let bad = subst (λ t. IsMinifyRefusalOf t c.in-Err.error) same c.in-Err.ensures.first_error in
-    refused_at _ c.in_ok-text_of.ensures.1 bad c.cause.ensures c.position.ensures c.refused.ensures
+    let bad = subst (λ t. IsMinifyErrorOf t c.in-Err.error) same c.in-Err.ensures.first_error in
+    rejected_at _ c.in_ok-text_of.ensures.1 bad c.cause.ensures c.position.ensures c.rejected.ensures

@@ -8,4 +8,4 @@ pub returns-in-Ok : goal.returns-in-Ok
 returns-in-Ok c = some_document c.in-Ok.ensures.parses c.in_ok-text_of.ensures
 
 pub returns-in-Err : goal.returns-in-Err
-returns-in-Err c = no_document c.in-Err.ensures.parses c.in_ok-text_of.ensures c.cause.ensures c.position.ensures c.refused.ensures
+returns-in-Err c = no_document c.in-Err.ensures.parses c.in_ok-text_of.ensures c.cause.ensures c.position.ensures c.rejected.ensures

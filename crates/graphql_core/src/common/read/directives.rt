@@ -8,7 +8,7 @@ ghost use Rattle.graphql_core.specs.values.Meanings.{default_of, optional_defaul
 ghost use Rattle.graphql_core.specs.values.Values.{ValueTree, DirectiveTree};
 ghost use Rattle.graphql_core.specs.values.ValueViews.{value_view, argument_view, arguments_view, directive_view};
 ghost use Rattle.graphql_core.specs.values.ValueViews.{directives_view};
-ghost use Rattle.graphql_core.specs.steps.Answers.{Gives};
+ghost use Rattle.graphql_core.specs.steps.ReaderResults.{Gives};
 
 use crate::common::Names;
 use crate::common::read::lists::{Elements, read_enclosed, read_many};

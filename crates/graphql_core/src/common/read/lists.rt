@@ -2,7 +2,7 @@
 ghost use Rattle.std.specs.Prelude.{◌≡◌, ◌≤◌, ℕ, List, OnOk, length, map};
 ghost use Rattle.graphql_core.specs.steps.Punctuators.{class_of};
 ghost use Rattle.graphql_core.specs.grammar.Trees.{ParseTree, Many, Sym, optional};
-ghost use Rattle.graphql_core.specs.steps.Answers.{Gives, Adds};
+ghost use Rattle.graphql_core.specs.steps.ReaderResults.{Gives, Adds};
 ghost use Rattle.graphql_core.specs.values.Parts.{each_of};
 ghost use Rattle.graphql_core.specs.steps.Lists.{IsList, IsOption};
 
@@ -18,7 +18,7 @@ pub trait Elements<S: TokenSource> {
     ghost use Rattle.graphql_core.specs.grammar.Trees.{Expr, ParseTree, peek};
     ghost use Rattle.graphql_core.specs.theory.Tables.{first};
     ghost use Rattle.graphql_core.specs.theory.Reading.{sees};
-    ghost use Rattle.graphql_core.specs.steps.Answers.{Gives, Adds};
+    ghost use Rattle.graphql_core.specs.steps.ReaderResults.{Gives, Adds};
 
     /// What a list stores of one element.
     type Item: Drop;

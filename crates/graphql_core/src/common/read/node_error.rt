@@ -11,7 +11,7 @@ pub enum NodeError<R> {
     /// An error that every reader can return.
     Stopped(ReadError),
     /// The node before the next token or end of input is rejected.
-    Refused(R),
+    RejectedNode(R),
 }
 
 impl<R> From<ReadError> for NodeError<R> {

@@ -8,7 +8,7 @@ ghost use Rattle.graphql_core.specs.steps.Constness.{object_rule, begins_variabl
 ghost use Rattle.graphql_core.specs.steps.Constness.{as_list, as_object};
 ghost use Rattle.graphql_core.specs.values.Values.{put};
 ghost use Rattle.graphql_core.specs.values.ValueViews.{value_view, members_view};
-ghost use Rattle.graphql_core.specs.steps.Answers.{Gives};
+ghost use Rattle.graphql_core.specs.steps.ReaderResults.{Gives};
 
 use crate::common::Names;
 use crate::common::read::leaf::plain_value;

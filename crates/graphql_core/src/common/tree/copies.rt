@@ -89,7 +89,7 @@ fn copy<N: Names, M: Names, C: CopyNames<N, M>>(
         Value::Int(number) => Ok(Value::Int(*number)),
         Value::Float(literal) => Ok(Value::Float(literal.clone()?)),
         Value::String(text) => Ok(Value::String(text.clone()?)),
-        Value::Boolean(answer) => Ok(Value::Boolean(*answer)),
+        Value::Boolean(is_true) => Ok(Value::Boolean(*is_true)),
         Value::Null => Ok(Value::Null),
         Value::Enum(name) => Ok(Value::Enum(copying.name(name)?)),
         Value::List(items) => Ok(Value::List(copy_items(copying, items)?)),

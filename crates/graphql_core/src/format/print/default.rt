@@ -1,6 +1,6 @@
 //! Default values.
 ghost use Rattle.std.specs.Prelude.{◌≡◌, ◌+◌, ◌-◌, ◌*◌, ◌^◌, ◌<◌, OnOk, min, option_map};
-ghost use Rattle.graphql_core.specs.{text_of, IsLawful, default_layout, default_levels, value_view};
+ghost use Rattle.graphql_core.specs.{text_of, IsWellFormed, default_layout, default_levels, value_view};
 ghost use Rattle.std.specs.Option.{IfSome};
 
 use crate::common::Names;
@@ -30,7 +30,7 @@ pub fn write_default<S: Sink, N: Names>(
         < 2 ^ 32 }
     ensures text { OnOk result (S.took out.old
         (text_of (default_layout style.now margin (option_map (value_view N.bytes) value.now))) out.new) }
-    ensures lawful { OnOk result (IfSome (option_map (value_view N.bytes) value.now) IsLawful) }
+    ensures well_formed { OnOk result (IfSome (option_map (value_view N.bytes) value.now) IsWellFormed) }
 {
     let Some(value) = value else {
         return Ok(());

@@ -1,6 +1,6 @@
 //! Arguments and directives.
 ghost use Rattle.std.specs.Prelude.{◌≡◌, ◌+◌, ◌*◌, ◌^◌, ◌<◌, false, OnOk, length};
-ghost use Rattle.graphql_core.specs.{text_of, AreLawfulArguments, AreLawfulDirectives, arguments_view};
+ghost use Rattle.graphql_core.specs.{text_of, AreWellFormedArguments, AreWellFormedDirectives, arguments_view};
 ghost use Rattle.graphql_core.specs.{directive_view, directives_view, arguments_layout, arguments_levels};
 ghost use Rattle.graphql_core.specs.{directive_layout, directives_layout, directives_levels};
 
@@ -23,7 +23,7 @@ fn write_argument_lines<S: Sink, N: Names>(
         < 2 ^ 32 }
     ensures text { OnOk result
         (S.took out.old (text_of (arguments_layout style.now margin (arguments_view N.bytes arguments.now))) out.new) }
-    ensures lawful { OnOk result (AreLawfulArguments (arguments_view N.bytes arguments.now)) }
+    ensures well_formed { OnOk result (AreWellFormedArguments (arguments_view N.bytes arguments.now)) }
 {
     out.push_str("(")?;
     let indented = inside(style, margin);
@@ -51,7 +51,7 @@ fn write_argument_line<S: Sink, N: Names>(
         < 2 ^ 32 }
     ensures text { OnOk result
         (S.took out.old (text_of (arguments_layout style.now margin (arguments_view N.bytes arguments.now))) out.new) }
-    ensures lawful { OnOk result (AreLawfulArguments (arguments_view N.bytes arguments.now)) }
+    ensures well_formed { OnOk result (AreWellFormedArguments (arguments_view N.bytes arguments.now)) }
 {
     let mut before = "(";
     'arguments: for argument in arguments {
@@ -75,7 +75,7 @@ fn write_some_arguments<S: Sink, N: Names>(
         < 2 ^ 32 }
     ensures text { OnOk result
         (S.took out.old (text_of (arguments_layout style.now margin (arguments_view N.bytes arguments.now))) out.new) }
-    ensures lawful { OnOk result (AreLawfulArguments (arguments_view N.bytes arguments.now)) }
+    ensures well_formed { OnOk result (AreWellFormedArguments (arguments_view N.bytes arguments.now)) }
 {
     if style.has_multiline_arguments() {
         return write_argument_lines(out, arguments, style, margin);
@@ -94,7 +94,7 @@ pub fn write_arguments<S: Sink, N: Names>(
     requires { margin + arguments_levels style.now (arguments_view N.bytes arguments.now) * style.now.indent < 2 ^ 32 }
     ensures text { OnOk result
         (S.took out.old (text_of (arguments_layout style.now margin (arguments_view N.bytes arguments.now))) out.new) }
-    ensures lawful { OnOk result (AreLawfulArguments (arguments_view N.bytes arguments.now)) }
+    ensures well_formed { OnOk result (AreWellFormedArguments (arguments_view N.bytes arguments.now)) }
 {
     if arguments.is_empty() {
         return Ok(());
@@ -114,7 +114,7 @@ pub fn write_directive<S: Sink, N: Names>(
         < 2 ^ 32 }
     ensures text { OnOk result
         (S.took out.old (text_of (directive_layout style.now margin (directive_view N.bytes directive.now))) out.new) }
-    ensures lawful { OnOk result (AreLawfulArguments (directive_view N.bytes directive.now).arguments) }
+    ensures well_formed { OnOk result (AreWellFormedArguments (directive_view N.bytes directive.now).arguments) }
 {
     out.push_two("@", N::view(&directive.name))?;
     write_arguments(out, &directive.arguments, style, margin)
@@ -132,7 +132,7 @@ pub fn write_directives<S: Sink, N: Names>(
         < 2 ^ 32 }
     ensures text { OnOk result (S.took out.old
         (text_of (directives_layout style.now margin (directives_view N.bytes directives.now))) out.new) }
-    ensures lawful { OnOk result (AreLawfulDirectives (directives_view N.bytes directives.now)) }
+    ensures well_formed { OnOk result (AreWellFormedDirectives (directives_view N.bytes directives.now)) }
 {
     'directives: for directive in directives {
         out.push_str(" ")?;

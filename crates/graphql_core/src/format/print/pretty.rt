@@ -20,7 +20,7 @@ pub trait Pretty {
     ghost opens: { StyleOptions → Self → ℕ };
 
     /// What holds of every such tree that a program can make.
-    ghost lawful: { Self → Type 0 };
+    ghost well_formed: { Self → Type 0 };
 
     /// How many levels the tree opens at once, saturating at `usize::MAX`.
     fn levels(&self, style: &Style) -> usize
@@ -30,7 +30,7 @@ pub trait Pretty {
     fn write<S: Sink>(&self, out: &mut S, style: &Style, margin: usize) -> Result<(), S::Error>
         requires { margin + opens style.now self.now * style.now.indent < 2 ^ 32 }
         ensures text { OnOk result (S.took out.old (text_of (lines style.now margin self.now)) out.new) }
-        ensures lawful { OnOk result (lawful self.now) };
+        ensures well_formed { OnOk result (well_formed self.now) };
 }
 
 /// Formats a tree in the default style. If that is too wide, the result is `fmt::Error`.
@@ -65,7 +65,7 @@ pub fn write_each<S: Sink, P: Pretty>(
 ) -> Result<(), S::Error>
     requires { margin + most (P.opens style.now) parts.now * style.now.indent < 2 ^ 32 }
     ensures text { OnOk result (S.took out.old (text_of (flat_map (P.lines style.now margin) parts.now)) out.new) }
-    ensures lawful { OnOk result (AllByRecursion P.lawful parts.now) }
+    ensures well_formed { OnOk result (AllByRecursion P.well_formed parts.now) }
 {
     'parts: for part in parts {
         part.write(out, style, margin)?;
@@ -84,7 +84,7 @@ pub fn write_joined<S: Sink, P: Pretty>(
     requires { margin + most (P.opens style.now) parts.now * style.now.indent < 2 ^ 32 }
     ensures text { OnOk result
         (S.took out.old (joined separator.now (map (λ p. text_of (P.lines style.now margin p)) parts.now)) out.new) }
-    ensures lawful { OnOk result (AllByRecursion P.lawful parts.now) }
+    ensures well_formed { OnOk result (AllByRecursion P.well_formed parts.now) }
 {
     let Some((first, others)) = parts.split_first() else {
         return Ok(());

@@ -1,6 +1,6 @@
 //! Values.
 ghost use Rattle.std.specs.Prelude.{◌+◌, ◌*◌, ◌^◌, ◌<◌, OnOk};
-ghost use Rattle.graphql_core.specs.{text_of, object, list, IsLawful, AreLawful, value_view, items_view};
+ghost use Rattle.graphql_core.specs.{text_of, object, list, IsWellFormed, AreWellFormed, value_view, items_view};
 ghost use Rattle.graphql_core.specs.{members_view, value_layout, value_levels};
 
 use crate::common::Names;
@@ -22,14 +22,14 @@ pub fn write_value<S: Sink, N: Names>(
     requires { margin + value_levels style.now (value_view N.bytes value.now) * style.now.indent < 2 ^ 32 }
     ensures text { OnOk result
         (S.took out.old (text_of (value_layout style.now margin (value_view N.bytes value.now))) out.new) }
-    ensures lawful { OnOk result (IsLawful (value_view N.bytes value.now)) }
+    ensures well_formed { OnOk result (IsWellFormed (value_view N.bytes value.now)) }
 {
     match value {
         Value::Variable(name) => out.push_two("$", N::view(name)),
         Value::Int(number) => write_integer(out, number.as_i64().unwrap()),
         Value::Float(literal) => out.push_str(literal.as_str()),
         Value::String(text) => write_string(out, text.as_str(), style, margin),
-        Value::Boolean(answer) => out.push_str(if *answer { "true" } else { "false" }),
+        Value::Boolean(is_true) => out.push_str(if *is_true { "true" } else { "false" }),
         Value::Null => out.push_str("null"),
         Value::Enum(name) => out.push_str(N::view(name)),
         Value::List(items) => write_list(out, items, style, margin),
@@ -48,7 +48,7 @@ fn write_list<S: Sink, N: Names>(
     requires { margin + value_levels style.now (list (items_view N.bytes items.now)) * style.now.indent < 2 ^ 32 }
     ensures text { OnOk result
         (S.took out.old (text_of (value_layout style.now margin (list (items_view N.bytes items.now)))) out.new) }
-    ensures lawful { OnOk result (AreLawful (items_view N.bytes items.now)) }
+    ensures well_formed { OnOk result (AreWellFormed (items_view N.bytes items.now)) }
 {
     out.push_str("[")?;
     let indented = inside(style, margin);
@@ -73,7 +73,7 @@ fn write_object<S: Sink, N: Names>(
         < 2 ^ 32 }
     ensures text { OnOk result (S.took out.old
         (text_of (value_layout style.now margin (object (members_view N.bytes members.now.entries)))) out.new) }
-    ensures lawful { OnOk result (IsLawful (object (members_view N.bytes members.now.entries))) }
+    ensures well_formed { OnOk result (IsWellFormed (object (members_view N.bytes members.now.entries))) }
 {
     out.push_str("{")?;
     let indented = inside(style, margin);

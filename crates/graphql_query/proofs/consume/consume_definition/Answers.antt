@@ -1,6 +1,6 @@
 use Rattle.std.proofs.Common.{sym, ◌∙◌, subst, arith}
-use Rattle.graphql_core.proofs.{as_error, from_stream, exit, refusal}
-use Rattle.graphql_core.specs.{past_bound, AnswersUnlessMemory, IsRefusalOf, Refusal, Items}
+use Rattle.graphql_core.proofs.{as_error, from_stream, exit, parse_failure}
+use Rattle.graphql_core.specs.{past_bound, ReturnsUnlessOutOfMemory, IsErrorOf, ParseFailure, Items}
 use Rattle.graphql_query.specs.{one_definition, BeginsWith}
 use Rattle.graphql_query.proofs.{found, one_first, earlier_definition, shorter, other_definitions, other_rest, other_tokens}
 use Rattle.graphql_query.proofs.consume.consume_definition.Goals as goal
@@ -9,13 +9,13 @@ use Rattle.graphql_query.proofs.consume.consume_definition.Goals as goal
 
 pub returns-then-source-gt-MAX_LENGTH-clause-first_error : goal.returns-then-source-gt-MAX_LENGTH-clause-first_error
 returns-then-source-gt-MAX_LENGTH-clause-first_error g c =
-    subst (λ (r : Refusal). IsRefusalOf one_definition c.args.source.now r) (sym (c.from.ensures ∙ c.text_too_long.ensures)) (past_bound (omega arith))
+    subst (λ (r : ParseFailure). IsErrorOf one_definition c.args.source.now r) (sym (c.from.ensures ∙ c.text_too_long.ensures)) (past_bound (omega arith))
 
 -- ---- an error
 
 pub returns-in_err-definition-clause-complete : goal.returns-in_err-definition-clause-complete
 returns-in_err-definition-clause-complete g c r bound (items, has, x, others, begins, means, rest) =
-    subst (AnswersUnlessMemory _ r) (as_error _ _ c.from_residual.ensures.1) (c.in_err-definition.ensures.complete x others
+    subst (ReturnsUnlessOutOfMemory _ r) (as_error _ _ c.from_residual.ensures.1) (c.in_err-definition.ensures.complete x others
     (subst (λ (i : Items). BeginsWith i.tokens x others) (sym (c.new-cursor.ensures items has)) begins))
 
 pub returns-in_err-definition-clause-document : goal.returns-in_err-definition-clause-document
@@ -32,7 +32,7 @@ pub returns-in_err-definition-clause-first_error : goal.returns-in_err-definitio
 returns-in_err-definition-clause-first_error g c =
     let e = c.in_err-definition.field-0.0 in
     exit _ e _ c.from_residual.ensures.1
-    (refusal one_definition c.args.source.now _ e (omega arith) (from_stream _ _ c.new-cursor.ensures) c.in_err-definition.ensures.first_error)
+    (parse_failure one_definition c.args.source.now _ e (omega arith) (from_stream _ _ c.new-cursor.ensures) c.in_err-definition.ensures.first_error)
 
 -- ---- the first definition
 

@@ -31,7 +31,7 @@ either_not false o p f one other h = other h
 empty_not : (g f : FaultText) → is_unexpected g.cause ≡ false → Some g ≡ Some f → is_unexpected f.cause ≡ false
 empty_not g f other h = let same : f ≡ g = cc in ap (λ (x : FaultText). is_unexpected x.cause) same ∙ other
 
-nodes_not : (node : ParseTree) (f : FaultText) → schemas.refuses node f → is_unexpected f.cause ≡ false
+nodes_not : (node : ParseTree) (f : FaultText) → schemas.rejects node f → is_unexpected f.cause ≡ false
 nodes_not (Node k x) f h =
     either_not (k == schema_symbol) (option_map (said_at (schema_of (Node k x))) (root_fault_of x)) _ f (braces_not _ (schema_of (Node k x)) f)
     (either_not (k == schema_extension_symbol) (option_map (said_at (schema_extension_of (Node k x))) (extension_fault_of x))

@@ -1,14 +1,14 @@
 use Rattle.std.proofs.Common.{ℕ, List, refl, subst}
-use Rattle.graphql_core.specs.{Item, HasItems, split, FaultText, Refusal, IsRefusalOf, past_bound}
-use Rattle.graphql_core.specs.sources.Refusals.{Tells}
+use Rattle.graphql_core.specs.{Item, HasItems, split, FaultText, ParseFailure, IsErrorOf, past_bound}
+use Rattle.graphql_core.specs.sources.ParseFailures.{IsOutOfMemoryOr}
 use Rattle.graphql_core.specs.documents.Faults.{IsFaultAt, ran_out, faulty}
 use Rattle.graphql_core.proofs.{items_unique}
 use Rattle.graphql_schema.specs.{schemas, RefersTo}
 use Rattle.graphql_schema.proofs.{fault_refers}
 use Rattle.graphql_schema.proofs.laws.rejected_nodes_are_in_the_input.Goals as goal
 
-first : (text : List ℕ) (items : List Item) (r : Refusal) → HasItems text items → IsRefusalOf schemas text r
-    → Tells (λ (f : FaultText). (n : ℕ) × RefersTo (split items).tokens n f) r
+first : (text : List ℕ) (items : List Item) (r : ParseFailure) → HasItems text items → IsErrorOf schemas text r
+    → IsOutOfMemoryOr (λ (f : FaultText). (n : ℕ) × RefersTo (split items).tokens n f) r
 first text items _ has ran_out = refl
 first text items _ has (past_bound long) = (0, tt)
 first text items _ has (faulty f short (others, has', (n, why, least, said))) =

@@ -2,17 +2,17 @@ use lib.Utf8.{encode}
 use Rattle.std.specs.Char.{IsScalar}
 use Rattle.std.proofs.Common.{◌≡◌, ◌≢◌, ◌∙◌, ℕ, ◌+◌, ◌++◌, List, [], ◌∷◌, length, codes, refl, sym, ap, subst, arith, length-append}
 use Rattle.std.specs.Str.Parse.{digits_value}
-use Rattle.graphql_core.specs.{HasValue, HasNoStringValue, StandsFor, BeginsNoName, no_units, unit_then}
+use Rattle.graphql_core.specs.{HasValue, HasNoStringValue, Denotes, BeginsNoName, no_units, unit_then}
 use Rattle.graphql_core.specs.{escaped_slash, escaped_backspace, escaped_unicode, common_indent}
 use Rattle.graphql_core.proofs.{digits_at, no_escape_named, no_escape_other, no_value}
 use Rattle.graphql_core.proofs.common.laws.worked_values.Goals as goal
 
 -- a string of one unit
-one_unit : (unit bytes : List ℕ) → StandsFor (92 ∷ unit) bytes → HasValue (92 ∷ unit ++ []) (bytes ++ [])
+one_unit : (unit bytes : List ℕ) → Denotes (92 ∷ unit) bytes → HasValue (92 ∷ unit ++ []) (bytes ++ [])
 one_unit unit bytes s = unit_then (92 ∷ unit) bytes [] [] s no_units
 
 -- a backslash, and then no escape
-none : (text : List ℕ) → ((unit bytes after : List ℕ) → StandsFor (92 ∷ unit) bytes → text ≢ unit ++ after) → HasNoStringValue (92 ∷ text)
+none : (text : List ℕ) → ((unit bytes after : List ℕ) → Denotes (92 ∷ unit) bytes → text ≢ unit ++ after) → HasNoStringValue (92 ∷ text)
 none text other v h = no_value [] text v (λ i small. absurd (omega (arith, small))) other h
 
 too_few : BeginsNoName (codes "12")

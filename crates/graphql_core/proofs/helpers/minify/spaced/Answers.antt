@@ -1,6 +1,6 @@
 use Rattle.std.proofs.Common.{◌≡◌, ℕ, Bool, List, ◌∷◌, ◌++◌, Ok, refl, sym, ap, ◌∙◌, subst, append_assoc, arith}
-use Rattle.graphql_core.specs.declared.tokenizer.token.Token.{Token as Cut}
-use Rattle.graphql_core.specs.{NextLexeme, NextItemOrLexeme, Item, Token, IsEnd, split, token_of, IsBadPlaceOf}
+use Rattle.graphql_core.specs.declared.tokenizer.token.Token.{Token as LexedToken}
+use Rattle.graphql_core.specs.{NextLexeme, NextItemOrLexeme, Item, Token, IsEnd, split, token_of, IsLexicalErrorOf}
 use Rattle.graphql_core.specs.{is_spaced, space_if, spaced, spaced_after, kind_number}
 use Rattle.graphql_core.specs.declared.position.Pos.{Pos}
 use Rattle.graphql_core.proofs.{next_of, spaced_alike, ends_alike, spaced_first}
@@ -17,7 +17,7 @@ written b before t ts text all is appended =
     ∙ sym (append_assoc text (space_if b ++ t.spelling) more) ∙ ap (λ (l : List ℕ). l ++ more) (sym appended)
 
 -- this token is the first of the old items; the new items are the others, ignoring positions
-module _ (old new : List Item) (t : Cut) (next : NextLexeme old t new) where
+module _ (old new : List Item) (t : LexedToken) (next : NextLexeme old t new) where
   written_on : (before : ℕ) (b : Bool) (text all : List ℕ) → ((p : Pos) → b ≡ is_spaced before (token_of p t.kind t.value.now))
       → all ≡ text ++ (space_if b ++ t.value.now)
       → text ++ spaced_after before (split old).tokens ≡ all ++ spaced_after (kind_number t.kind) (split new).tokens
@@ -47,8 +47,8 @@ tokens-init c =
 pub tokens-preserved : goal.tokens-preserved
 tokens-preserved c =
     let new = c.match-fast_lexeme.tokens in
-    let cut = c.match-fast_lexeme.token in
-    let following : NextLexeme c.tokens.tokens cut new = elim c.match-fast_lexeme.branch [
+    let tokenized = c.match-fast_lexeme.token in
+    let following : NextLexeme c.tokens.tokens tokenized new = elim c.match-fast_lexeme.branch [
       | in-Some w ↦ rw (w.token-is, w.tokens-is) w.in-Some.ensures.item
       | in-None+in-Ok-Some w ↦
           let is = w.in-Ok-Some.is ∙ ap Ok (rw w.in-Ok-Some.is at w.in-Ok-Some.field-0-is) in
@@ -58,15 +58,15 @@ tokens-preserved c =
     record {
       text = λ items has.
           c.tokens.invariant.text items has
-          ∙ written_on c.tokens.tokens new cut following (kind_number c.tokens.before) c.is_spaced.result c.tokens.text _ c.is_spaced.ensures
+          ∙ written_on c.tokens.tokens new tokenized following (kind_number c.tokens.before) c.is_spaced.result c.tokens.text _ c.is_spaced.ensures
           c.in_ok-push_spaced.ensures;
-      ends = λ items has end. c.tokens.invariant.ends items has (ends_before c.tokens.tokens new cut following end);
-      ends_left = λ items has end. ends_after c.tokens.tokens new cut following (c.tokens.invariant.ends_left items has end);
+      ends = λ items has end. c.tokens.invariant.ends items has (ends_before c.tokens.tokens new tokenized following end);
+      ends_left = λ items has end. ends_after c.tokens.tokens new tokenized following (c.tokens.invariant.ends_left items has end);
     }
 
 pub returns-in-Err-clause-first_error : goal.returns-in-Err-clause-first_error
 returns-in-Err-clause-first_error c items has =
-    subst (λ (l : List Item). IsBadPlaceOf (split l) c.fault_of_tokens.result) (sym (c.new.ensures.only items has)) c.fault_of_tokens.ensures
+    subst (λ (l : List Item). IsLexicalErrorOf (split l) c.fault_of_tokens.result) (sym (c.new.ensures.only items has)) c.fault_of_tokens.ensures
 
 pub new-tokens-requires : goal.new-tokens-requires
 new-tokens-requires c = omega arith

@@ -3,7 +3,7 @@ use Rattle.std.proofs.lemmas.List.Elements.{All-push, All-same}
 use Rattle.graphql_core.specs.declared.position.Pos.{Pos}
 use Rattle.graphql_core.specs.{NextItem, next_place, split, Marks, then_left}
 use Rattle.graphql_core.specs.declared.helpers.span.Span.{Span}
-use Rattle.graphql_core.proofs.{next_of, next_left, marks, is_token, one_cut, taken}
+use Rattle.graphql_core.proofs.{next_of, next_left, marks, is_token, one_tokenized, taken}
 use Rattle.graphql_core.proofs.helpers.spans.append.Given.{Over}
 use Rattle.graphql_core.proofs.helpers.spans.append.Goals.{in-Some, in-None+in-Ok-Some, Joined-fast_token}
 use Rattle.std.proofs.lemmas.Grind.{common_steps}
@@ -48,7 +48,7 @@ tokens-preserved g c =
           let number = g.W.Width.number in
           let span = c.span_of-span.result in
           let so_far = c.tokens.invariant.appends text left in
-          let (is, stands, more) = next_left text old new token following so_far.left in
+          let (is, is_element, more) = next_left text old new token following so_far.left in
           let w = next_place old in
           let start = c.span_of-span.ensures.start ∙ c.offset-start.ensures in
           let end = c.span_of-span.ensures.end ∙ ap (λ n. n + length token.value.now) c.offset-start.ensures in
@@ -60,11 +60,11 @@ tokens-preserved g c =
             marks = λ marked.
                 All-same (Marks number text) _ _ pushed
                 (All-push (Marks number text) spans span (so_far.marks marked)
-                (marks number text span w token.kind token.value.now stands start end line column kind front));
+                (marks number text span w token.kind token.value.now is_element start end line column kind front));
             left = more;
             items =
-                one_cut number text spans span old new token.kind token.value.now w _ so_far.items is
-                (is_token number text span w token.kind token.value.now stands start end line column kind front)
+                one_tokenized number text spans span old new token.kind token.value.now w _ so_far.items is
+                (is_token number text span w token.kind token.value.now is_element start end line column kind front)
                 ∙ sym (ap (λ (l : List (Span g.row.W.Denot)). then_left number text l (split new)) pushed);
           };
       count = taken old new token spans _ _ _ following pushed c.tokens.invariant.count;

@@ -1,14 +1,14 @@
 use Rattle.std.proofs.Common.{◌≡◌, ◌∙◌, arith, rules}
 use Rattle.graphql_core.specs.declared.tokenizer.piece.Move.TheVariants.{Down}
 use Rattle.graphql_core.specs.{is_spacing, is_line_feed, contents, items}
-use Rattle.graphql_core.proofs.{skip_contents, gap_contents, spaces_gap, spacing_front, feed_front, first_told}
+use Rattle.graphql_core.proofs.{skip_contents, gap_contents, spaces_gap, spacing_front, feed_front, first_decided}
 use Rattle.graphql_core.proofs.lexical.Tokens.{first_bytes}
 use Rattle.graphql_core.proofs.tokenizer.ignored.after_common.Goals as goal
 
 pub common-preserved : goal.common-preserved
 common-preserved c =
     let rest = c.common.rest.now in
-    let spacing = first_told is_spacing rest c.first_byte-byte.ensures c.is_spacing.ensures c.if-is_spacing.true in
+    let spacing = first_decided is_spacing rest c.first_byte-byte.ensures c.is_spacing.ensures c.if-is_spacing.true in
     record {
       text = search rules;
       left = λ w. rw c.split_at-then-is_spacing.ensures.back (skip_contents rest 1 _ (spacing_front rest spacing) w) ∙ c.common.invariant.left w;
@@ -18,7 +18,7 @@ common-preserved c =
 pub common-preserved-then-is_line_feed : goal.common-preserved-then-is_line_feed
 common-preserved-then-is_line_feed c =
     let rest = c.common.rest.now in
-    let feed = first_told is_line_feed rest c.first_byte-byte.ensures c.is_line_feed.ensures c.if-is_line_feed.true in
+    let feed = first_decided is_line_feed rest c.first_byte-byte.ensures c.is_line_feed.ensures c.if-is_line_feed.true in
     record {
       text = search rules;
       left = λ w.

@@ -1,7 +1,7 @@
 use Rattle.std.proofs.Common.{◌≡◌, ◌+◌, ◌-◌, length, ap, ◌∙◌, arith, rules}
 use Rattle.graphql_core.specs.declared.tokenizer.piece.Move.TheVariants.{Down}
 use Rattle.graphql_core.specs.{is_spacing, columns_of, is_line_feed}
-use Rattle.graphql_core.proofs.{further_skip, further_spaces, further_spacing, feed_front, first_told}
+use Rattle.graphql_core.proofs.{further_skip, further_spaces, further_spacing, feed_front, first_decided}
 use Rattle.graphql_core.proofs.lexical.Tokens.{first_bytes}
 use Rattle.std.proofs.lemmas.Grind.{common_steps}
 use Rattle.graphql_core.proofs.tokenizer.ignored.skip_common.Goals as goal
@@ -9,7 +9,7 @@ use Rattle.graphql_core.proofs.tokenizer.ignored.skip_common.Goals as goal
 pub common-preserved : goal.common-preserved
 common-preserved c =
     let rest = c.common.rest.now in
-    let spacing = first_told is_spacing rest c.first_byte-byte.ensures c.is_spacing.ensures c.if-is_spacing.true in
+    let spacing = first_decided is_spacing rest c.first_byte-byte.ensures c.is_spacing.ensures c.if-is_spacing.true in
     let columns = c.columns_of.ensures.is ∙ ap columns_of c.first_byte-byte.ensures in
     record {
       text = search rules;
@@ -28,7 +28,7 @@ common-preserved c =
 pub returns-in_default-clause-skips : goal.returns-in_default-clause-skips
 returns-in_default-clause-skips c =
     let rest = c.common.rest.now in
-    let feed = first_told is_line_feed rest c.first_byte-byte.ensures c.is_line_feed.ensures c.if-is_line_feed.true in
+    let feed = first_decided is_line_feed rest c.first_byte-byte.ensures c.is_line_feed.ensures c.if-is_line_feed.true in
     let passed = length c.args.text.now - length rest in
     let all : length c.args.text.now - length c.split_at.result.1.now ≡ passed + 1 = omega arith in (
       (λ w at. rw (all, c.split_at.ensures.back, c.position_after_line-place.ensures)
@@ -41,7 +41,7 @@ returns-in_default-clause-skips c =
 pub common-preserved-then-is_line_feed : goal.common-preserved-then-is_line_feed
 common-preserved-then-is_line_feed c =
     let rest = c.common.rest.now in
-    let feed = first_told is_line_feed rest c.first_byte-byte.ensures c.is_line_feed.ensures c.if-is_line_feed.true in
+    let feed = first_decided is_line_feed rest c.first_byte-byte.ensures c.is_line_feed.ensures c.if-is_line_feed.true in
     record {
       text = search rules;
       skipped = (

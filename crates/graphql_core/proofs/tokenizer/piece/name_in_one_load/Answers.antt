@@ -16,9 +16,9 @@ lanes_from-requires-clause-within g c =
     ends_short is_name_continue 16 _ c.in_ok-rest.rest.now c.name_lanes-len.ensures c.if-len-eq-LANES.false
 
 -- the name at the front
-stands : (text rest : List ℕ) (b n : ℕ) → text ≡ b ∷ rest → is_name_start (get_or text 0 0) ≡ true → n ≡ prefix_len is_name_continue (take 16 rest) → n < 16
+holds : (text rest : List ℕ) (b n : ℕ) → text ≡ b ∷ rest → is_name_start (get_or text 0 0) ≡ true → n ≡ prefix_len is_name_continue (take 16 rest) → n < 16
     → 16 ≤ length rest → front text ≡ Takes (n + 1) Name Unchanged
-stands text rest b n whole begins is few long =
+holds text rest b n whole begins is few long =
     let len : prefix_len is_name_continue rest ≡ n = ends_within is_name_continue 16 rest long (omega (arith, is)) ∙ sym is in
     rw (whole, ← len) (name_front b rest (rw whole at begins))
 
@@ -27,7 +27,7 @@ returns-clause-is g c =
     let rest = c.in_ok-rest.rest.now in
     let whole = sym c.as_bytes.ensures.value ∙ c.in_ok-rest.ensures.cases.0 in
     let few = ends_short is_name_continue 16 _ rest c.name_lanes-len.ensures c.if-len-eq-LANES.false in
-    sym (ap taken (stands c.args.text.now rest c.in_ok-rest.field-0-0.now c.name_lanes-len.result whole c.requires.begins c.name_lanes-len.ensures few
+    sym (ap taken (holds c.args.text.now rest c.in_ok-rest.field-0-0.now c.name_lanes-len.result whole c.requires.begins c.name_lanes-len.ensures few
     (omega (arith, c.requires.long, ap length whole))))
 
 pub returns-clause-gap : goal.returns-clause-gap

@@ -1,6 +1,6 @@
 use Rattle.std.proofs.Common.{string_bytes, inl, inr}
 use Rattle.std.proofs.lemmas.Result.{IfOk-weaker}
-use Rattle.graphql_query.specs.{IsReadBack, document_view}
+use Rattle.graphql_query.specs.{ParsesBackTo, document_view}
 use Rattle.graphql_parser.specs.declared.tests.outputs.Lost.TheVariants as lost
 use Rattle.graphql_parser.proofs.{at_passed, mapped, same_again, lost_again}
 use Rattle.graphql_parser.proofs.tests.outputs.minified_and_parsed.Goals as goal
@@ -13,7 +13,7 @@ returns-clause-same c d has =
 pub returns-clause-no_other : goal.returns-clause-no_other
 returns-clause-no_other c =
     let other = at_passed _ _ _ c.map_err.ensures.cases c.map_err.ensures.variant c.in_ok-text.was c.minify_query.ensures.no_other in
-    mapped _ _ lost.Parse (λ v. IsReadBack (string_bytes c.args.source) (document_view string_bytes v)) (λ y. Unit {0}) c.map_err-2.ensures.cases
+    mapped _ _ lost.Parse (λ v. ParsesBackTo (string_bytes c.args.source) (document_view string_bytes v)) (λ y. Unit {0}) c.map_err-2.ensures.cases
     (IfOk-weaker c.parse_query.result _ _ (λ v has. other (document_view string_bytes v) (rw c.deref.ensures at has)) c.parse_query.ensures.parses.sound)
 
 pub returns-clause-parsed : goal.returns-clause-parsed

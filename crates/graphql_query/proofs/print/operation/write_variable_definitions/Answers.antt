@@ -1,7 +1,7 @@
 use Rattle.std.proofs.Common.{◌∙◌, ◌<◌, ◌*◌, ◌^◌, map, arith, refl, sym}
 use Rattle.graphql_core.specs.{most}
 use Rattle.graphql_core.proofs.{and_last, on_ok, some_items, most_seen, all_seen, in_parentheses_seen}
-use Rattle.graphql_query.specs.{IsLawfulVariable, variable_definition_layout, variable_definition_levels, variable_definition_view}
+use Rattle.graphql_query.specs.{IsWellFormedVariable, variable_definition_layout, variable_definition_levels, variable_definition_view}
 use Rattle.graphql_query.proofs.print.operation.write_variable_definitions.Goals as goal
 
 pub write_joined-requires : goal.write_joined-requires
@@ -18,7 +18,7 @@ returns-clause-text g c =
     and_last g.S.Sink.took more _ _ _ _ _ _ _ (more _ _ _ _ _ c.in_ok-push_str.ensures c.in_ok-write_joined.ensures.text) c.push_str-2.ensures
     (in_parentheses_seen (variable_definition_view g.N.Names.bytes) (variable_definition_layout c.args.style.now) c.args.variables.now some)
 
-pub returns-clause-lawful : goal.returns-clause-lawful
-returns-clause-lawful g c =
+pub returns-clause-well_formed : goal.returns-clause-well_formed
+returns-clause-well_formed g c =
     on_ok c.push_str-2.result
-    (all_seen (variable_definition_view g.N.Names.bytes) IsLawfulVariable c.args.variables.now c.in_ok-write_joined.ensures.lawful)
+    (all_seen (variable_definition_view g.N.Names.bytes) IsWellFormedVariable c.args.variables.now c.in_ok-write_joined.ensures.well_formed)

@@ -3,10 +3,10 @@ use Rattle.graphql_core.specs.{text_of, in_levels}
 use Rattle.std.proofs.lemmas.Result.{on_ok_weaker}
 use Rattle.graphql_core.proofs.{narrower, text_append, and_alone, and_last, and_part, on_ok, all_hold}
 use Rattle.graphql_query.specs.declared.tree.SelectionSet.{the_lemmas}
-use Rattle.graphql_query.specs.{selection_set_view, selection_view, selections_view, AreLawfulSelections}
+use Rattle.graphql_query.specs.{selection_set_view, selection_view, selections_view, AreWellFormedSelections}
 use Rattle.graphql_query.specs.{selection_layout, selections_layout, selection_set_levels}
 use Rattle.graphql_query.proofs.{selection_set_parts, field_parts, inline_fragment_parts, selection_here}
-use Rattle.graphql_query.proofs.{no_items, some_items, nothing_layout, nothing_lawful, some_levels, some_layout}
+use Rattle.graphql_query.proofs.{no_items, some_items, nothing_layout, nothing_well_formed, some_levels, some_layout}
 use Rattle.graphql_query.proofs.print.selection.+print.Goals as goal
 
 pub write_selection_set-write_selections-requires : goal.write_selection_set-write_selections-requires
@@ -24,9 +24,9 @@ write_selection_set-returns-clause-text g t c =
     (rw (selection_set_parts bytes c.args.set.now, c.indentation.ensures)
     (simp (text_append, append_assoc)))
 
-pub write_selection_set-returns-clause-lawful : goal.write_selection_set-returns-clause-lawful
-write_selection_set-returns-clause-lawful g t c =
-    let selections = rw c.deref.ensures.value at c.in_ok-write_selections.ensures.lawful in
+pub write_selection_set-returns-clause-well_formed : goal.write_selection_set-returns-clause-well_formed
+write_selection_set-returns-clause-well_formed g t c =
+    let selections = rw c.deref.ensures.value at c.in_ok-write_selections.ensures.well_formed in
     on_ok c.push_str.result (rw (selection_set_parts g.N.Names.bytes c.args.set.now) selections)
 
 pub write_selections-write_selection-requires : goal.write_selections-write_selection-requires
@@ -43,7 +43,7 @@ pub write_selections-items-init : goal.write_selections-items-init
 write_selections-items-init g t c = record {
   bound = c.requires;
   wrote = ([], g.met.S.Sink.took_nil _, refl);
-  lawful = λ h. h;
+  well_formed = λ h. h;
 }
 
 pub write_selections-items-preserved : goal.write_selections-items-preserved
@@ -60,13 +60,13 @@ write_selections-items-preserved g t c =
           (ap (λ r. done ++ r)
           (sym (ap (λ r. text_of (selections_layout c.args.style.now c.args.margin r)) here
           ∙ text_append (selection_layout c.args.style.now c.args.margin (selection_view bytes c.item-item.result)) _)) ∙ rest);
-      lawful = λ h. l.invariant.lawful (rw here (c.in_ok-write_selection.ensures.lawful, h));
+      well_formed = λ h. l.invariant.well_formed (rw here (c.in_ok-write_selection.ensures.well_formed, h));
     }
 
-pub write_selections-returns-clause-lawful : goal.write_selections-returns-clause-lawful
-write_selections-returns-clause-lawful g t c =
+pub write_selections-returns-clause-well_formed : goal.write_selections-returns-clause-well_formed
+write_selections-returns-clause-well_formed g t c =
     all_hold (selections_view g.N.Names.bytes) c.args.items.now c.args.items.now c.items.item-index (omega arith) refl
-    AreLawfulSelections tt c.items.invariant.lawful
+    AreWellFormedSelections tt c.items.invariant.well_formed
 
 pub write_field-write_directives-requires : goal.write_field-write_directives-requires
 write_field-write_directives-requires g t c =
@@ -94,13 +94,13 @@ write_field-returns-clause-text g t c =
     and_last g.S.Sink.took more _ _ _ _ _ _ _ written c.write_optional_selection_set.ensures.text
     (rw (field_parts bytes c.args.field.now, c.view.ensures) (simp (text_append, append_assoc)))
 
-pub write_field-returns-clause-lawful : goal.write_field-returns-clause-lawful
-write_field-returns-clause-lawful g t c =
-    let arguments = rw c.deref.ensures.value at c.in_ok-write_arguments.ensures.lawful in
-    let directives = rw c.deref-2.ensures.value at c.in_ok-write_directives.ensures.lawful in
+pub write_field-returns-clause-well_formed : goal.write_field-returns-clause-well_formed
+write_field-returns-clause-well_formed g t c =
+    let arguments = rw c.deref.ensures.value at c.in_ok-write_arguments.ensures.well_formed in
+    let directives = rw c.deref-2.ensures.value at c.in_ok-write_directives.ensures.well_formed in
     rw (field_parts g.N.Names.bytes c.args.field.now)
     (on_ok_weaker c.write_optional_selection_set.result (λ set. (arguments, directives, set))
-    c.write_optional_selection_set.ensures.lawful)
+    c.write_optional_selection_set.ensures.well_formed)
 
 pub write_inline_fragment-write_selection_set-requires : goal.write_inline_fragment-write_selection_set-requires
 write_inline_fragment-write_selection_set-requires g t c κs within =
@@ -117,11 +117,11 @@ write_inline_fragment-returns-clause-text g t c =
     and_last g.S.Sink.took more _ _ _ _ _ _ _ (more _ _ _ _ _ on directives) c.write_selection_set.ensures.text
     (rw (inline_fragment_parts bytes c.args.fragment.now) (simp (text_append, append_assoc)))
 
-pub write_inline_fragment-returns-clause-lawful : goal.write_inline_fragment-returns-clause-lawful
-write_inline_fragment-returns-clause-lawful g t c =
-    let directives = rw c.deref.ensures.value at c.in_ok-write_directives.ensures.lawful in
+pub write_inline_fragment-returns-clause-well_formed : goal.write_inline_fragment-returns-clause-well_formed
+write_inline_fragment-returns-clause-well_formed g t c =
+    let directives = rw c.deref.ensures.value at c.in_ok-write_directives.ensures.well_formed in
     rw (inline_fragment_parts g.N.Names.bytes c.args.fragment.now)
-    (on_ok_weaker c.write_selection_set.result (λ set. (directives, set)) c.write_selection_set.ensures.lawful)
+    (on_ok_weaker c.write_selection_set.result (λ set. (directives, set)) c.write_selection_set.ensures.well_formed)
 
 pub write_optional_selection_set-write_selection_set-requires : goal.write_optional_selection_set-write_selection_set-requires
 write_optional_selection_set-write_selection_set-requires g t c κs within =
@@ -145,8 +145,8 @@ write_optional_selection_set-returns-then-is_empty-clause-text g t c =
     rw (nothing_layout bytes s c.args.style.now c.args.margin (no_items bytes s (sym c.is_empty.ensures ∙ c.if-is_empty.true)))
     c.push_str.ensures
 
-pub write_optional_selection_set-returns-then-is_empty-clause-lawful : goal.write_optional_selection_set-returns-then-is_empty-clause-lawful
-write_optional_selection_set-returns-then-is_empty-clause-lawful g t c =
+pub write_optional_selection_set-returns-then-is_empty-clause-well_formed : goal.write_optional_selection_set-returns-then-is_empty-clause-well_formed
+write_optional_selection_set-returns-then-is_empty-clause-well_formed g t c =
     let bytes = g.N.Names.bytes in
     let s = c.args.set.now in
-    on_ok c.push_str.result (nothing_lawful bytes s (no_items bytes s (sym c.is_empty.ensures ∙ c.if-is_empty.true)))
+    on_ok c.push_str.result (nothing_well_formed bytes s (no_items bytes s (sym c.is_empty.ensures ∙ c.if-is_empty.true)))

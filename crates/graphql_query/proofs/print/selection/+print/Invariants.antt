@@ -1,6 +1,6 @@
 use Rattle.std.proofs.Common.{◌≡◌, ◌++◌, ◌+◌, ◌*◌, ◌<◌, ◌^◌, List, ℕ, drop}
 use Rattle.graphql_core.specs.{text_of}
-use Rattle.graphql_query.specs.{selections_view, AreLawfulSelections, selections_layout, selections_levels}
+use Rattle.graphql_query.specs.{selections_view, AreWellFormedSelections, selections_layout, selections_levels}
 use Rattle.graphql_query.proofs.print.selection.+print.Given as goal
 
 abbrev pub invariant-write_selections-items : goal.invariant-write_selections-items
@@ -11,5 +11,5 @@ invariant-write_selections-items g l =
       bound : l.margin + selections_levels l.style left * l.style.indent < 2 ^ 32;
       wrote : (done : List ℕ) × g.S.Sink.took l.initial.out done l.out
           × (done ++ text_of (selections_layout l.style l.margin left) ≡ text_of (selections_layout l.style l.margin whole));
-      lawful : AreLawfulSelections left → AreLawfulSelections whole;
+      well_formed : AreWellFormedSelections left → AreWellFormedSelections whole;
     }

@@ -1,8 +1,8 @@
 use Rattle.std.proofs.lemmas.Bool.{false≢true}
 use Rattle.graphql_query.proofs.print.width.is_document_too_wide.Goals as goal
 
-pub returns-then-leaves_room : goal.returns-then-leaves_room
-returns-then-leaves_room g c = (λ h. absurd (false≢true h), λ wide. absurd (c.leaves_room.ensures c.if-leaves_room.true wide))
+pub returns-then-is_narrow_by_sets : goal.returns-then-is_narrow_by_sets
+returns-then-is_narrow_by_sets g c = (λ h. absurd (false≢true h), λ wide. absurd (c.is_narrow_by_sets.ensures c.if-is_narrow_by_sets.true wide))
 
 pub returns : goal.returns
 returns g c = c.is_too_wide.ensures _ c.levels.ensures

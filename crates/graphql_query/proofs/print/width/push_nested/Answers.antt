@@ -17,7 +17,7 @@ items-preserved g c =
     let l = c.items in
     let here = ap (selections_depth in_sets) (selection_here bytes c.args.items.now l.item-index c.item-item.result (omega arith) c.item-item.is) in
     let nested = c.nested_in-is_nested in
-    let room : l.next < length l.sets = omega (arith, l.invariant.long, l.invariant.within.1, c.requires, c.items-test.true) in
+    let capacity : l.next < length l.sets = omega (arith, l.invariant.long, l.invariant.within.1, c.requires, c.items-test.true) in
     let long = length-set l.sets l.next (nested.result.0, c.args.around) ∙ l.invariant.long in
     let stored = most_stored (reach_of bytes) l.sets l.next in
     let kept = most_kept (reach_of bytes) l.sets l.next in
@@ -26,7 +26,7 @@ items-preserved g c =
         long = long;
         within = (omega (arith, l.invariant.within.0), omega (arith, l.invariant.within.1));
         reach = λ k le.
-            let more = stored k (nested.result.0, c.args.around) room (omega (arith, le, l.invariant.within.0)) in
+            let more = stored k (nested.result.0, c.args.around) capacity (omega (arith, le, l.invariant.within.0)) in
             rw more (omega (arith, here, l.invariant.reach k le, nested.ensures.some has));
       })
       | inr lacks ↦ rw lacks (record {

@@ -1,5 +1,5 @@
-use Rattle.graphql_core.proofs.{read_whole, read_stopped, read_refused, read_left}
-use Rattle.graphql_schema.specs.{schemas, refusals}
+use Rattle.graphql_core.proofs.{read_whole, read_stopped, read_rejected, read_left}
+use Rattle.graphql_schema.specs.{schemas, rejections}
 use Rattle.graphql_schema.proofs.{readable}
 use Rattle.graphql_schema.proofs.document.DocumentReadDocument.read.Goals as goal
 
@@ -9,10 +9,10 @@ returns-in-Err-Stopped-clause-reads g c =
     let reads = rw e.field-0-is at e.ensures in
     read_stopped schemas readable _ _ _ e.error _ reads.gives c.fault_of.ensures
 
-pub returns-in-Err-Refused-clause-reads : goal.returns-in-Err-Refused-clause-reads
-returns-in-Err-Refused-clause-reads g c =
-    let e = c.in-Err-Refused in
-    read_refused schemas readable _ _ _ refusals _ e.node _ (rw e.field-0-is at e.ensures) c.fault.ensures
+pub returns-in-Err-RejectedNode-clause-reads : goal.returns-in-Err-RejectedNode-clause-reads
+returns-in-Err-RejectedNode-clause-reads g c =
+    let e = c.in-Err-RejectedNode in
+    read_rejected schemas readable _ _ _ rejections _ e.node _ (rw e.field-0-is at e.ensures) c.fault.ensures
 
 pub returns-then-is_at_end-clause-reads : goal.returns-then-is_at_end-clause-reads
 returns-then-is_at_end-clause-reads g c =

@@ -1,6 +1,6 @@
 use Rattle.std.proofs.Common.{◌∙◌, sym, refl}
 use Rattle.graphql_core.proofs.{and_last, on_ok, some_items, most_seen, all_seen, in_parentheses_seen}
-use Rattle.graphql_schema.specs.{input_value_layout, input_value_levels, IsLawfulInputValue, input_value_view}
+use Rattle.graphql_schema.specs.{input_value_layout, input_value_levels, IsWellFormedInputValue, input_value_view}
 use Rattle.graphql_schema.proofs.print.field.write_arguments.Goals as goal
 
 pub write_joined-requires : goal.write_joined-requires
@@ -13,6 +13,6 @@ returns-clause-text g c =
     and_last g.S.Sink.took more _ _ _ _ _ _ _ (more _ _ _ _ _ c.in_ok-push_str.ensures c.in_ok-write_joined.ensures.text) c.push_str-2.ensures
     (in_parentheses_seen (input_value_view g.N.Names.bytes) (input_value_layout c.args.style.now c.args.margin) c.args.arguments.now some)
 
-pub returns-clause-lawful : goal.returns-clause-lawful
-returns-clause-lawful g c =
-    on_ok c.push_str-2.result (all_seen (input_value_view g.N.Names.bytes) IsLawfulInputValue c.args.arguments.now c.in_ok-write_joined.ensures.lawful)
+pub returns-clause-well_formed : goal.returns-clause-well_formed
+returns-clause-well_formed g c =
+    on_ok c.push_str-2.result (all_seen (input_value_view g.N.Names.bytes) IsWellFormedInputValue c.args.arguments.now c.in_ok-write_joined.ensures.well_formed)

@@ -13,7 +13,7 @@ write-requires g c =
     (narrower _ _ _ c.args.style.now.indent (2 ^ 32) (rw here at l.invariant.bound)).0
 
 pub fields-init : goal.fields-init
-fields-init g c = record { bound = c.requires; wrote = ([], g.met.S.Sink.took_nil _, refl); lawful = λ h. h }
+fields-init g c = record { bound = c.requires; wrote = ([], g.met.S.Sink.took_nil _, refl); well_formed = λ h. h }
 
 pub fields-preserved : goal.fields-preserved
 fields-preserved g c =
@@ -30,5 +30,5 @@ fields-preserved g c =
     record {
       bound = (narrower _ _ _ c.args.style.now.indent (2 ^ 32) (rw here at l.invariant.bound)).1;
       wrote = and_part g.S.Sink.took more _ _ _ done _ _ _ wrote written (ap (λ r. done ++ r) (ap (λ r. r ++ text_of later) one ∙ sym next) ∙ rest);
-      lawful = λ h. l.invariant.lawful (rw here (c.in_ok-write.ensures.lawful, h));
+      well_formed = λ h. l.invariant.well_formed (rw here (c.in_ok-write.ensures.well_formed, h));
     }

@@ -1,7 +1,7 @@
 use Rattle.std.proofs.Common.{◌≡◌, ◌++◌, ◌+◌, ◌*◌, ◌<◌, ◌^◌, List, ℕ, drop, map}
 use Rattle.graphql_core.specs.{text_of, most}
 use Rattle.std.specs.List.{AllByRecursion, flat_map}
-use Rattle.graphql_schema.specs.{IsLawfulInputValue, input_field_layout, input_value_levels, input_value_view}
+use Rattle.graphql_schema.specs.{IsWellFormedInputValue, input_field_layout, input_value_levels, input_value_view}
 use Rattle.graphql_schema.proofs.print.parts.write_input_fields.Given as goal
 
 abbrev pub invariant-fields : goal.invariant-fields
@@ -13,5 +13,5 @@ invariant-fields g l =
       bound : l.margin + most (input_value_levels l.style) (map view left) * l.style.indent < 2 ^ 32;
       wrote : (done : List ℕ) × g.S.Sink.took l.fn.out done l.out
           × (done ++ text_of (flat_map lines (map view left)) ≡ text_of (flat_map lines (map view l.fields)));
-      lawful : AllByRecursion IsLawfulInputValue (map view left) → AllByRecursion IsLawfulInputValue (map view l.fields);
+      well_formed : AllByRecursion IsWellFormedInputValue (map view left) → AllByRecursion IsWellFormedInputValue (map view l.fields);
     }

@@ -1,6 +1,6 @@
 use Rattle.std.proofs.Common.{refl, sym, ap, ap₂, ◌∙◌}
 use Rattle.graphql_core.proofs.{Stops-before, reads_led, halts_led, stops_led, whole}
-use Rattle.graphql_schema.specs.{schemas, schema, type_definition, directive, refusals}
+use Rattle.graphql_schema.specs.{schemas, schema, type_definition, directive, rejections}
 use Rattle.graphql_schema.proofs.{an_extension, no_extension, a_description, a_schema, a_directive, a_type}
 use Rattle.graphql_schema.proofs.{no_keyword, with_description, directive_means, body_means}
 use Rattle.graphql_schema.proofs.read.definition.definition.Goals as goal
@@ -8,12 +8,12 @@ use Rattle.graphql_schema.proofs.read.definition.definition.Goals as goal
 pub returns-then-sees_keyword : goal.returns-then-sees_keyword
 returns-then-sees_keyword g c =
     let led = an_extension _ (sym c.sees_keyword.ensures ∙ c.if-sees_keyword.true) in
-    reads_led schemas refusals _ _ _ _ _ _ led (λ v x is. is) c.extension.ensures
+    reads_led schemas rejections _ _ _ _ _ _ led (λ v x is. is) c.extension.ensures
 
 pub returns-in_err-description : goal.returns-in_err-description
 returns-in_err-description g c =
     let led = no_extension _ (sym c.sees_keyword.ensures ∙ c.if-sees_keyword.false) in
-    stops_led schemas refusals _ _ _ _ _ led (Stops-before _ _ _ _ _ _ c.in_err-description.ensures) c.from_residual.ensures.1
+    stops_led schemas rejections _ _ _ _ _ led (Stops-before _ _ _ _ _ _ c.in_err-description.ensures) c.from_residual.ensures.1
 
 -- ---- a schema
 
@@ -21,7 +21,7 @@ pub returns-in_err-schema-in-Some-Schema : goal.returns-in_err-schema-in-Some-Sc
 returns-in_err-schema-in-Some-Schema g c =
     let other = sym c.sees_keyword.ensures ∙ c.if-sees_keyword.false in
     let led = a_schema other c.in_ok-description.ensures.1 (rw c.in-Some-Schema.field-0-is at c.in-Some-Schema.ensures) in
-    halts_led schemas refusals _ _ _ _ _ _ _ led c.in_err-schema-in-Some-Schema.ensures c.from_residual-in_err-schema-in-Some-Schema.ensures.1
+    halts_led schemas rejections _ _ _ _ _ _ _ led c.in_err-schema-in-Some-Schema.ensures c.from_residual-in_err-schema-in-Some-Schema.ensures.1
 
 pub returns-in_ok-schema-in-Some-Schema : goal.returns-in_ok-schema-in-Some-Schema
 returns-in_ok-schema-in-Some-Schema g c =
@@ -36,7 +36,7 @@ pub returns-in_err-body-in-Some-OfType : goal.returns-in_err-body-in-Some-OfType
 returns-in_err-body-in-Some-OfType g c =
     let other = sym c.sees_keyword.ensures ∙ c.if-sees_keyword.false in
     let led = a_type other c.in_ok-description.ensures.1 c.in-Some-OfType.kind (rw c.in-Some-OfType.field-0-is at c.in-Some-OfType.ensures) in
-    stops_led schemas refusals _ _ _ _ _ led c.in_err-body-in-Some-OfType.ensures c.from_residual-in_err-body-in-Some-OfType.ensures.1
+    stops_led schemas rejections _ _ _ _ _ led c.in_err-body-in-Some-OfType.ensures c.from_residual-in_err-body-in-Some-OfType.ensures.1
 
 pub returns-in_ok-body-in-Some-OfType : goal.returns-in_ok-body-in-Some-OfType
 returns-in_ok-body-in-Some-OfType g c =
@@ -52,7 +52,7 @@ pub returns-in_err-definition-in-Some-Directive : goal.returns-in_err-definition
 returns-in_err-definition-in-Some-Directive g c =
     let other = sym c.sees_keyword.ensures ∙ c.if-sees_keyword.false in
     let led = a_directive other c.in_ok-description.ensures.1 (rw c.in-Some-Directive.field-0-is at c.in-Some-Directive.ensures) in
-    stops_led schemas refusals _ _ _ _ _ led c.in_err-definition-in-Some-Directive.ensures c.from_residual-in_err-definition-in-Some-Directive.ensures.1
+    stops_led schemas rejections _ _ _ _ _ led c.in_err-definition-in-Some-Directive.ensures c.from_residual-in_err-definition-in-Some-Directive.ensures.1
 
 pub returns-in_ok-definition-in-Some-Directive : goal.returns-in_ok-definition-in-Some-Directive
 returns-in_ok-definition-in-Some-Directive g c =
@@ -67,4 +67,4 @@ pub returns-in-None : goal.returns-in-None
 returns-in-None g c =
     let none = rw c.in-None.is at c.peek_keyword.ensures in
     let led = a_description (sym c.sees_keyword.ensures ∙ c.if-sees_keyword.false) c.in_ok-description.ensures.1 in
-    stops_led schemas refusals _ _ _ _ _ led (no_keyword _ none) refl
+    stops_led schemas rejections _ _ _ _ _ led (no_keyword _ none) refl

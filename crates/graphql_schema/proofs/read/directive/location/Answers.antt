@@ -1,7 +1,7 @@
 use Rattle.std.proofs.Common.{is_some, sym, ap, ◌∙◌}
 use Rattle.graphql_core.specs.{Leaf, Node}
 use Rattle.graphql_schema.specs.{location_of, location_symbol}
-use Rattle.graphql_schema.proofs.{named, unnamed, location_missing, location_refused, location_taken}
+use Rattle.graphql_schema.proofs.{named, unnamed, location_missing, location_rejected, location_taken}
 use Rattle.graphql_schema.proofs.read.directive.location.Goals as goal
 
 pub returns-in_err-token : goal.returns-in_err-token
@@ -11,7 +11,7 @@ returns-in_err-token g c =
 pub returns-in_default : goal.returns-in_default
 returns-in_default g c =
     let none = ap location_of (sym c.as_str.ensures) ∙ unnamed _ _ _ c.in_default.ensures.value in
-    location_refused g.S.TokenSource.bytes (g.S.TokenSource.items c.args.source.now) c.in_ok-token.token c.in_ok-token.ensures (ap is_some none)
+    location_rejected g.S.TokenSource.bytes (g.S.TokenSource.items c.args.source.now) c.in_ok-token.token c.in_ok-token.ensures (ap is_some none)
 
 pub returns : goal.returns
 returns g c =

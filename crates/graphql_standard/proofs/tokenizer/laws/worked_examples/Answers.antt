@@ -9,7 +9,7 @@ use Rattle.graphql_core.specs.declared.tokenizer.piece.Nesting.TheVariants.{Unch
 use Rattle.graphql_core.specs.{front, other_token, number, quoted_front, string_end}
 use Rattle.graphql_core.specs.steps.Numbers.{is_float, is_unsigned, is_after_integer, is_after_dot}
 use Rattle.graphql_core.specs.steps.Ahead.{ignored_front, taken}
-use Rattle.graphql_core.specs.lexical.Lexical.{TokenOf, Stands, float_token, string_token, block_string_token, closing, with_exponent, body_ends, body_character, body_escape}
+use Rattle.graphql_core.specs.lexical.Lexical.{TokenOf, IsLexicalElement, float_token, string_token, block_string_token, closing, with_exponent, body_ends, body_character, body_escape}
 use Rattle.graphql_core.specs.lexical.Lexical as core
 use Rattle.graphql_core.proofs.lexical.Elements.{begins_none}
 use Rattle.graphql_standard.specs.lexical.Numbers.{int_value, float_value}
@@ -34,9 +34,9 @@ exponent integer part i e = number_element (float_value (standard.with_exponent 
 
 -- a string of `graphql_core` alone
 other_string : (body : List ℕ) → core.IsStringBody body → body ≢ [] → (IsStringBody body → ⊥)
-    → Stands (in_quotes body) (TokenOf StringValue Unchanged) [] × BeginsNoneOf IsElement (in_quotes body)
+    → IsLexicalElement (in_quotes body) (TokenOf StringValue Unchanged) [] × BeginsNoneOf IsElement (in_quotes body)
 other_string body valid some other =
-    let token : Stands (in_quotes body) (TokenOf StringValue Unchanged) [] = string_token body valid (λ e. absurd (some e)) in (
+    let token : IsLexicalElement (in_quotes body) (TokenOf StringValue Unchanged) [] = string_token body valid (λ e. absurd (some e)) in (
       token,
       other_from (in_quotes body) (in_quotes body) [] (TokenOf StringValue Unchanged) (element.Token StringValue) (sym (append-nil (in_quotes body))) token refl
           (λ h. other (subst IsStringBody (sym (same_bodies body h.0 h.1)) h.2)),
@@ -86,7 +86,7 @@ empty = ([], no_characters)
 pub returns : goal.returns
 unfolding front other_token number is_float is_unsigned is_after_integer is_after_dot quoted_front string_end number_front integer_len fraction_len exponent_len encode_utf8
 returns c =
-    let bare : Stands (codes "1e+") (TokenOf FloatValue Unchanged) [] = float_token (core.with_exponent (codes "1") (codes "e+") refl refl) tt in
+    let bare : IsLexicalElement (codes "1e+") (TokenOf FloatValue Unchanged) [] = float_token (core.with_exponent (codes "1") (codes "e+") refl refl) tt in
     record {
       exponents = (exponent (codes "1") (codes "e9") refl refl, exponent (codes "0") (codes "e0") refl refl);
       neighbours = (number_element (int_value refl) refl, number_element (int_value refl) refl);

@@ -1,7 +1,7 @@
 use Rattle.std.specs.Char.{encode_utf8}
 use Rattle.std.specs.Option.{IfSome, IfNone}
 use Rattle.std.proofs.Common.{◌≡◌, ◌++◌, ◌∷◌, [], List, ℕ, ◌<◌, sym, ap, subst, ◌∙◌, arith}
-use Rattle.graphql_core.specs.strings.Strings.{StandsFor, escaped_quote, escaped_backslash, escaped_slash, escaped_backspace, escaped_form_feed}
+use Rattle.graphql_core.specs.strings.Strings.{Denotes, escaped_quote, escaped_backslash, escaped_slash, escaped_backspace, escaped_form_feed}
 use Rattle.graphql_core.specs.strings.Strings.{escaped_line_feed, escaped_carriage_return, escaped_tab}
 use Rattle.graphql_core.proofs.strings.Escapes.{letter_escape}
 use Rattle.graphql_standard.specs.steps.Escapes.{BeginsEscape, BeginsNoEscape}
@@ -33,7 +33,7 @@ pub returns-clause-escapes : goal.returns-clause-escapes
 returns-clause-escapes c =
     let text = sym c.chars-characters.ensures.rest ∙ c.in_ok-next.ensures.steps.0 in
     let rest = c.as_str-2.result.now in
-    let letter = λ (k v : ℕ) (small : k < 128) (low : v < 128) (s : StandsFor (92 ∷ k ∷ []) (v ∷ [])) (h : c.in_ok-next.field-0 ≡ k).
+    let letter = λ (k v : ℕ) (small : k < 128) (low : v < 128) (s : Denotes (92 ∷ k ∷ []) (v ∷ [])) (h : c.in_ok-next.field-0 ≡ k).
     plain_begins c.args.text.now rest v (letter_escape c.args.text.now rest k v small low s
     (text ∙ ap (λ b. encode_utf8 b ++ c.next.new.self.rest.now) h ∙ ap (λ r. encode_utf8 k ++ r) (sym c.as_str-2.ensures))) in
     elim c.match-branch-2.branch [

@@ -1,5 +1,5 @@
 use Rattle.std.proofs.Common.{◌≡◌, true, refl}
-use Rattle.graphql_core.specs.{reason_of, shared, tables, shared_symbols, unquoted, is_tight, is_productive, RefusesTokens}
+use Rattle.graphql_core.specs.{reason_of, shared, tables, shared_symbols, unquoted, is_tight, is_productive, RejectsTokens}
 use Rattle.graphql_core.proofs.{sampled_below, shared_ll1, symbol_derived}
 use Rattle.graphql_core.proofs.common.read.laws.readers_return_what_is_derived.Goals as goal
 
@@ -12,8 +12,8 @@ unfolding tables unquoted
 productive = refl
 
 -- no node is rejected
-refuses_tokens : RefusesTokens shared
-refuses_tokens k x fits refused empty = absurd cc
+rejects_tokens : RejectsTokens shared
+rejects_tokens k x fits rejected empty = absurd cc
 
 -- each symbol has a sample
 sampled : sampled_below shared shared_symbols ≡ true
@@ -22,4 +22,4 @@ sampled = refl
 
 pub returns : goal.returns
 returns g c k old new view means r below gives =
-    symbol_derived shared shared_ll1 tight productive refuses_tokens shared_symbols sampled k below old new reason_of (λ v x. view v ≡ means x) r gives
+    symbol_derived shared shared_ll1 tight productive rejects_tokens shared_symbols sampled k below old new reason_of (λ v x. view v ≡ means x) r gives

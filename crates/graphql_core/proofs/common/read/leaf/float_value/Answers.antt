@@ -1,7 +1,7 @@
 use Rattle.std.proofs.Common.{◌∙◌}
 use Rattle.graphql_core.specs.{Leaf}
 use Rattle.graphql_core.specs.declared.tokenizer.token.Kind.TheVariants.{FloatValue}
-use Rattle.graphql_core.proofs.{literal_taken, literal_refused, not_shown, next_spelled, next_taken, next_refused}
+use Rattle.graphql_core.proofs.{literal_taken, literal_rejected, not_shown, next_spelled, next_taken, next_rejected}
 use Rattle.graphql_core.proofs.common.read.leaf.float_value.Goals as goal
 
 pub returns-in_err-token : goal.returns-in_err-token
@@ -13,8 +13,8 @@ returns-in_default g c =
     let t = c.in_ok-token.token in
     let n = c.in_ok-token.ensures in
     let spelled = next_spelled g.S.TokenSource.bytes FloatValue (g.S.TokenSource.items c.args.source.now) t n in
-    next_refused g.S.TokenSource.bytes FloatValue (g.S.TokenSource.items c.args.source.now) t n
-    (literal_refused _ (g.S.TokenSource.bytes t.text) (c.in_ok-text.ensures.ok ∙ c.as_str.ensures) spelled c.in_default.ensures.accepted)
+    next_rejected g.S.TokenSource.bytes FloatValue (g.S.TokenSource.items c.args.source.now) t n
+    (literal_rejected _ (g.S.TokenSource.bytes t.text) (c.in_ok-text.ensures.ok ∙ c.as_str.ensures) spelled c.in_default.ensures.accepted)
 
 pub returns : goal.returns
 returns g c =

@@ -1,7 +1,7 @@
 use Rattle.std.proofs.Common.{◌∙◌}
 use Rattle.graphql_core.specs.{Leaf}
 use Rattle.graphql_core.specs.declared.tokenizer.token.Kind.TheVariants.{IntValue}
-use Rattle.graphql_core.proofs.{integer_parsed, not_parsed, not_shown, next_spelled, next_taken, next_refused}
+use Rattle.graphql_core.proofs.{integer_parsed, not_parsed, not_shown, next_spelled, next_taken, next_rejected}
 use Rattle.graphql_core.proofs.common.read.leaf.int_value.Goals as goal
 
 pub returns-in_err-token : goal.returns-in_err-token
@@ -12,7 +12,7 @@ returns-in_default g c =
     let t = c.in_ok-token.token in
     let n = c.in_ok-token.ensures in
     let spelled = next_spelled g.S.TokenSource.bytes IntValue (g.S.TokenSource.items c.args.source.now) t n in
-    next_refused g.S.TokenSource.bytes IntValue (g.S.TokenSource.items c.args.source.now) t n
+    next_rejected g.S.TokenSource.bytes IntValue (g.S.TokenSource.items c.args.source.now) t n
     (not_parsed c.as_str.result.now (g.S.TokenSource.bytes t.text) c.as_str.ensures spelled c.in_default.ensures.value.0)
 
 pub returns : goal.returns

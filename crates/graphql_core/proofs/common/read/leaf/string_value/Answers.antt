@@ -1,7 +1,7 @@
 use Rattle.std.proofs.Common.{refl, ◌∙◌}
 use Rattle.graphql_core.specs.{Leaf, without_ends}
 use Rattle.graphql_core.specs.declared.tokenizer.token.Kind.TheVariants.{StringValue}
-use Rattle.graphql_core.proofs.{some_unquoted, none_unquoted, string_means, not_shown, next_spelled, next_taken, next_refused}
+use Rattle.graphql_core.proofs.{some_unquoted, none_unquoted, string_means, not_shown, next_spelled, next_taken, next_rejected}
 use Rattle.graphql_core.proofs.common.read.leaf.string_value.Goals as goal
 
 pub returns-in_err-token : goal.returns-in_err-token
@@ -25,5 +25,5 @@ returns-in-Err-BadEscape g c =
     let n = c.in_ok-token.ensures in
     let spelled = next_spelled g.S.TokenSource.bytes StringValue (g.S.TokenSource.items c.args.source.now) t n in
     let none = rw c.in-Err-BadEscape.field-0-is at c.in-Err-BadEscape.ensures.bad_escape in
-    next_refused g.S.TokenSource.bytes StringValue (g.S.TokenSource.items c.args.source.now) t n
+    next_rejected g.S.TokenSource.bytes StringValue (g.S.TokenSource.items c.args.source.now) t n
     (none_unquoted _ (none (without_ends 1 (g.S.TokenSource.bytes t.text)) (c.as_str.ensures ∙ spelled) refl))

@@ -35,8 +35,8 @@ lines-preserved c =
     let width = c.unwrap_or-width.result in
     let left = c.lines.invariant.left in
     let first = c.first_line.ensures.lines in
-    let room : shape.through ≤ length ls = omega (arith, shape_through shape ls c.shape_of-shape.ensures) in
-    let (within, here) = kept_line shape.first shape.through ls i line (omega arith) (omega arith) room (line_at ls i rest line after left first) in
+    let capacity : shape.through ≤ length ls = omega (arith, shape_through shape ls c.shape_of-shape.ensures) in
+    let (within, here) = kept_line shape.first shape.through ls i line (omega arith) (omega arith) capacity (line_at ls i rest line after left first) in
     let step : i + 1 - shape.first ≡ k + 1 = omega arith in
     let next : ℕ × List ℕ = (i, line) in
     let removed : c.if-index-eq0.removed ≡ (if i == 0 then 0 else width) = elim c.if-index-eq0.branch [
@@ -71,9 +71,9 @@ returns c =
     let width = c.unwrap_or-width.result in
     let is = c.shape_of-shape.ensures in
     let through = shape_through shape ls is in
-    let room : shape.through ≤ length ls = omega (arith, through) in
+    let capacity : shape.through ≤ length ls = omega (arith, through) in
     let k = c.lines.index - shape.first in
-    let all = take_all k zs (omega (arith, length-kept shape.first shape.through ls room)) in
+    let all = take_all k zs (omega (arith, length-kept shape.first shape.through ls capacity)) in
     c.lines.invariant.written ∙ ap (join_by (piece width) (10 ∷ [])) all
     ∙ ap (λ n. join_by (piece n) (10 ∷ []) zs) (c.unwrap_or-width.ensures ∙ shape_indent shape ls is)
     ∙ ap (λ n. join_by (piece (common_indent ls)) (10 ∷ []) (kept n shape.through ls)) (shape_first shape ls is)

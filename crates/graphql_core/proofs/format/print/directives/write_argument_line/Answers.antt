@@ -16,7 +16,7 @@ arguments-init g c =
       utf8 = search rules;
       bound = rw (inside_line style c.args.margin c.requires.in_line) at fits;
       wrote = (_, g.met.S.Sink.took_nil _, refl);
-      lawful = λ h. h;
+      well_formed = λ h. h;
     }
 
 pub write_value-requires : goal.write_value-requires
@@ -48,7 +48,7 @@ arguments-preserved g c =
       wrote = and_part g.S.Sink.took more _ _ _ done _ _ _ wrote part
           (ap (λ r. done ++ r) (led_next before name value _)
           ∙ ap (λ r. done ++ led before (codes ", ") (map text_of (each_argument style margin r))) (sym here) ∙ rest);
-      lawful = λ h. c.arguments.invariant.lawful (rw here (c.in_ok-write_value.ensures.lawful, h));
+      well_formed = λ h. c.arguments.invariant.well_formed (rw here (c.in_ok-write_value.ensures.well_formed, h));
     }
 
 pub returns-clause-text : goal.returns-clause-text

@@ -1,7 +1,7 @@
 use Rattle.std.proofs.Common.{◌≡◌, ◌++◌, ◌+◌, ◌*◌, ◌<◌, ◌^◌, List, ℕ, drop, codes, map}
 use denote.Text.{Utf8}
 use denote.Shadow.{shadow}
-use Rattle.graphql_core.specs.{text_of, AreLawfulArguments, arguments_view, each_argument, most_levels}
+use Rattle.graphql_core.specs.{text_of, AreWellFormedArguments, arguments_view, each_argument, most_levels}
 use Rattle.graphql_core.specs.steps.Joined.{led}
 use Rattle.graphql_core.proofs.format.print.directives.write_argument_line.Given as goal
 
@@ -15,5 +15,5 @@ invariant-arguments g l =
       wrote : (done : List ℕ) × g.S.Sink.took l.fn.out done l.out
           × (done ++ led l.before (codes ", ") (map text_of (each_argument l.style l.margin left))
           ≡ led (codes "(") (codes ", ") (map text_of (each_argument l.style l.margin whole)));
-      lawful : AreLawfulArguments left → AreLawfulArguments whole;
+      well_formed : AreWellFormedArguments left → AreWellFormedArguments whole;
     }

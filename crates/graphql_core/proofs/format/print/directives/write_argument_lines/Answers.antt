@@ -20,7 +20,7 @@ arguments-init g c =
     record {
       bound = rw c.inside-indented.ensures fits;
       wrote = (codes "(", c.in_ok-push_str.ensures, refl);
-      lawful = λ h. h;
+      well_formed = λ h. h;
     }
 
 pub write_value-requires : goal.write_value-requires
@@ -52,7 +52,7 @@ arguments-preserved g c =
       wrote = and_next g.S.Sink.took more style margin c.arguments.is_later
           (pair_layout name value) _ _ _ _ _ done _ wrote c.in_ok-write_before_part.ensures pair
           (ap (λ r. done ++ text_of (parts style margin c.arguments.is_later (each_argument style margin r))) (sym here) ∙ rest);
-      lawful = λ h. c.arguments.invariant.lawful (rw here (c.in_ok-write_value.ensures.lawful, h));
+      well_formed = λ h. c.arguments.invariant.well_formed (rw here (c.in_ok-write_value.ensures.well_formed, h));
     }
 
 pub returns-clause-text : goal.returns-clause-text

@@ -20,5 +20,5 @@ directives-preserved g c =
           (ap (λ r. done ++ r)
           (directives_more style margin (directive_view bytes c.directive-item.result) _
           ∙ ap (λ ds. text_of (directives_layout style margin ds)) (sym here)) ∙ rest);
-      lawful = λ h. c.directives.invariant.lawful (rw here (c.in_ok-write_directive.ensures.lawful, h));
+      well_formed = λ h. c.directives.invariant.well_formed (rw here (c.in_ok-write_directive.ensures.well_formed, h));
     }

@@ -1,5 +1,5 @@
 use Rattle.std.proofs.Common.{◌≡◌, ◌++◌, ◌+◌, ◌*◌, ◌<◌, ◌^◌, List, ℕ, drop}
-use Rattle.graphql_core.specs.{text_of, AreLawfulDirectives, directives_view, directives_layout, directives_levels}
+use Rattle.graphql_core.specs.{text_of, AreWellFormedDirectives, directives_view, directives_layout, directives_levels}
 use Rattle.graphql_core.proofs.format.print.directives.write_directives.Given as goal
 
 abbrev pub invariant-directives : goal.invariant-directives
@@ -10,5 +10,5 @@ invariant-directives g l =
       bound : l.margin + directives_levels l.style left * l.style.indent < 2 ^ 32;
       wrote : (done : List ℕ) × g.S.Sink.took l.fn.out done l.out
           × (done ++ text_of (directives_layout l.style l.margin left) ≡ text_of (directives_layout l.style l.margin whole));
-      lawful : AreLawfulDirectives left → AreLawfulDirectives whole;
+      well_formed : AreWellFormedDirectives left → AreWellFormedDirectives whole;
     }

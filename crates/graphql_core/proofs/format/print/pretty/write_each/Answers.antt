@@ -15,7 +15,7 @@ parts-preserved g c =
       bound = (narrower _ _ _ c.args.style.now.indent (2 ^ 32) (rw here at l.invariant.bound)).1;
       wrote = and_part g.S.Sink.took g.met.S.Sink.took_more _ _ _ done _ _ _ wrote c.in_ok-write.ensures.text
           (ap (λ r. done ++ r) (sym (ap (λ ps. text_of (flat_map lines ps)) here ∙ text_append (lines c.part-item.result) _)) ∙ rest);
-      lawful = λ h. l.invariant.lawful (rw here (c.in_ok-write.ensures.lawful, h));
+      well_formed = λ h. l.invariant.well_formed (rw here (c.in_ok-write.ensures.well_formed, h));
     }
 
 pub offset_bounds-parts-part-index : goal.offset_bounds-parts-part-index
@@ -30,5 +30,5 @@ write-requires g c =
 pub returns-clause-text : goal.returns-clause-text
 returns-clause-text g c = grind (arith, common_steps)
 
-pub returns-clause-lawful : goal.returns-clause-lawful
-returns-clause-lawful g c = grind (arith, common_steps)
+pub returns-clause-well_formed : goal.returns-clause-well_formed
+returns-clause-well_formed g c = grind (arith, common_steps)

@@ -10,5 +10,5 @@ invariant-parts g l =
     record {
       bound : l.margin + most (g.P.Pretty.opens l.style) left * l.style.indent < 2 ^ 32;
       wrote : (done : List ℕ) × g.S.Sink.took l.fn.out done l.out × (done ++ text_of (flat_map lines left) ≡ text_of (flat_map lines l.parts));
-      lawful : AllByRecursion g.P.Pretty.lawful left → AllByRecursion g.P.Pretty.lawful l.parts;
+      well_formed : AllByRecursion g.P.Pretty.well_formed left → AllByRecursion g.P.Pretty.well_formed l.parts;
     }

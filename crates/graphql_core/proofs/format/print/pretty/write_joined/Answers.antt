@@ -17,7 +17,7 @@ others-preserved g c =
       wrote = and_part g.S.Sink.took g.met.S.Sink.took_more _ _ _ done _ _ _ wrote
           (g.met.S.Sink.took_more _ _ _ _ _ c.in_ok-push_str.ensures c.in_ok-write-2.ensures.text)
           (ap (λ r. done ++ r) (sym (ap (λ ps. flat_map (λ (u : List ℕ). separator ++ u) (map (λ p. text_of (lines p)) ps)) here)) ∙ rest);
-      lawful = λ h. l.invariant.lawful (rw here (c.in_ok-write-2.ensures.lawful, h));
+      well_formed = λ h. l.invariant.well_formed (rw here (c.in_ok-write-2.ensures.well_formed, h));
     }
 
 pub offset_bounds-others-part-index : goal.offset_bounds-others-part-index
@@ -38,5 +38,5 @@ returns-in_default-clause-text g c = grind (arith, common_steps)
 pub returns-clause-text : goal.returns-clause-text
 returns-clause-text g c = grind (arith, common_steps)
 
-pub returns-clause-lawful : goal.returns-clause-lawful
-returns-clause-lawful g c = grind (arith, common_steps)
+pub returns-clause-well_formed : goal.returns-clause-well_formed
+returns-clause-well_formed g c = grind (arith, common_steps)

@@ -11,5 +11,5 @@ invariant-others g l =
       wrote : (done : List ℕ) × g.S.Sink.took l.fn.out done l.out
           × (done ++ flat_map (λ u. l.separator ++ u) (map (λ p. text_of (g.P.Pretty.lines l.style l.margin p)) left)
           ≡ joined l.separator (map (λ p. text_of (g.P.Pretty.lines l.style l.margin p)) l.parts));
-      lawful : AllByRecursion g.P.Pretty.lawful left → AllByRecursion g.P.Pretty.lawful l.parts;
+      well_formed : AllByRecursion g.P.Pretty.well_formed left → AllByRecursion g.P.Pretty.well_formed l.parts;
     }

@@ -1,6 +1,6 @@
 use Rattle.std.proofs.Common.{rules, arith, ◌≡◌, ◌∙◌, ◌++◌, ◌^◌, ap, sym, refl, false, codes, append-nil}
 use Rattle.std.proofs.lemmas.List.{at_drop_all}
-use Rattle.graphql_core.specs.{text_of, variable, AreLawful, value_view, items_view, members_view, parts}
+use Rattle.graphql_core.specs.{text_of, variable, AreWellFormed, value_view, items_view, members_view, parts}
 use Rattle.graphql_core.specs.{value_layout, items_layout, members_layout, items_levels, members_levels, pair_layout}
 use Rattle.graphql_core.specs.declared.common.tree.Value.{the_lemmas}
 use Rattle.graphql_core.proofs.{items_here, alike, and_alone, and_last, all_done, on_ok, all_hold, inside_fits, narrower}
@@ -22,7 +22,7 @@ write_list-items-init g t c =
     record {
       bound = rw c.inside-indented.ensures fits;
       wrote = (codes "[", c.in_ok-push_str.ensures, refl);
-      lawful = λ h. h;
+      well_formed = λ h. h;
     }
 
 pub write_list-write_value-requires : goal.write_list-write_value-requires
@@ -48,7 +48,7 @@ write_list-items-preserved g t c =
       wrote = and_next g.S.Sink.took g.met.S.Sink.took_more style margin c.items.is_later _ _ _ _ _ _ done _ wrote c.in_ok-write_before_part.ensures
           c.in_ok-write_value.ensures.text
           (ap (λ r. done ++ text_of (parts style margin c.items.is_later (items_layout style margin r))) (sym here) ∙ rest);
-      lawful = λ h. c.items.invariant.lawful (rw here (c.in_ok-write_value.ensures.lawful, h));
+      well_formed = λ h. c.items.invariant.well_formed (rw here (c.in_ok-write_value.ensures.well_formed, h));
     }
 
 pub write_list-returns-clause-text : goal.write_list-returns-clause-text
@@ -65,11 +65,11 @@ write_list-returns-clause-text g t c =
     (enclosed_text style c.args.margin margin (codes "[") (codes "]")
     (λ m. items_layout style m (items_view bytes c.args.items.now)) c.inside-indented.ensures)
 
-pub write_list-returns-clause-lawful : goal.write_list-returns-clause-lawful
-write_list-returns-clause-lawful g t c =
+pub write_list-returns-clause-well_formed : goal.write_list-returns-clause-well_formed
+write_list-returns-clause-well_formed g t c =
     on_ok c.write_closer.result
     (all_hold (items_view g.N.Names.bytes) c.args.items.now c.args.items.now c.items.item-index (omega arith) refl
-    AreLawful tt c.items.invariant.lawful)
+    AreWellFormed tt c.items.invariant.well_formed)
 
 -- ---- objects
 
@@ -93,7 +93,7 @@ write_object-members-init g t c =
         ap (λ ms. codes "{" ++ text_of
             (parts c.args.style.now c.inside-indented.result false (members_layout c.args.style.now c.inside-indented.result ms))) whole,
       );
-      lawful = λ h. rw whole at h;
+      well_formed = λ h. rw whole at h;
     }
 
 pub write_object-members-preserved : goal.write_object-members-preserved
@@ -116,7 +116,7 @@ write_object-members-preserved g t c =
           (members_layout style margin (members_view bytes c.next.new.self)) _ _ _ _ done _ wrote c.in_ok-write_before_part.ensures pair
           (ap (λ es. done ++ text_of (parts style margin c.members.is_later (members_layout style margin (members_view bytes es))))
           (sym c.in-Some.ensures.steps) ∙ rest);
-      lawful = λ h. c.members.invariant.lawful (rw c.in-Some.ensures.steps (c.in_ok-write_value.ensures.lawful, h));
+      well_formed = λ h. c.members.invariant.well_formed (rw c.in-Some.ensures.steps (c.in_ok-write_value.ensures.well_formed, h));
     }
 
 pub write_object-returns-clause-text : goal.write_object-returns-clause-text
@@ -128,12 +128,12 @@ write_object-returns-clause-text g t c =
     (enclosed_text style c.args.margin c.inside-indented.result (codes "{") (codes "}")
     (λ m. members_layout style m (members_view g.N.Names.bytes c.args.members.now.entries)) c.inside-indented.ensures)
 
-pub write_object-returns-clause-lawful : goal.write_object-returns-clause-lawful
-write_object-returns-clause-lawful g t c =
+pub write_object-returns-clause-well_formed : goal.write_object-returns-clause-well_formed
+write_object-returns-clause-well_formed g t c =
     let entries = c.args.members.now.entries in
     on_ok c.write_closer.result (
       in_key_order g.N.Names.bytes g.N.Value.Ord.cmp g.met.N.Names.cmp_by_bytes entries c.iter-name-items.ensures.ordered,
-      c.members.invariant.lawful (search rules),
+      c.members.invariant.well_formed (search rules),
     )
 
 -- ---- values

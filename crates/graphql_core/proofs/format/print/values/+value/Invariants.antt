@@ -1,5 +1,5 @@
 use Rattle.std.proofs.Common.{◌≡◌, ◌++◌, ◌+◌, ◌*◌, ◌<◌, ◌^◌, List, ℕ, drop, false, codes}
-use Rattle.graphql_core.specs.{text_of, AreLawful, HoldLawful, items_view, members_view, parts, items_layout, members_layout, items_levels, members_levels}
+use Rattle.graphql_core.specs.{text_of, AreWellFormed, HoldWellFormed, items_view, members_view, parts, items_layout, members_layout, items_levels, members_levels}
 use Rattle.graphql_core.proofs.format.print.values.+value.Given as goal
 
 abbrev pub invariant-write_list-items : goal.invariant-write_list-items
@@ -11,7 +11,7 @@ invariant-write_list-items g l =
       wrote : (done : List ℕ) × g.S.Sink.took l.fn.out done l.out
           × (done ++ text_of (parts l.style l.indented l.is_later (items_layout l.style l.indented left)) ≡ codes "["
           ++ text_of (parts l.style l.indented false (items_layout l.style l.indented whole)));
-      lawful : AreLawful left → AreLawful whole;
+      well_formed : AreWellFormed left → AreWellFormed whole;
     }
 
 abbrev pub invariant-write_object-members : goal.invariant-write_object-members
@@ -23,5 +23,5 @@ invariant-write_object-members g l =
       wrote : (done : List ℕ) × g.S.Sink.took l.fn.out done l.out
           × (done ++ text_of (parts l.style l.indented l.is_later (members_layout l.style l.indented left)) ≡ codes "{"
           ++ text_of (parts l.style l.indented false (members_layout l.style l.indented whole)));
-      lawful : HoldLawful left → HoldLawful whole;
+      well_formed : HoldWellFormed left → HoldWellFormed whole;
     }

@@ -7,9 +7,9 @@ use Rattle.graphql_core.proofs.tokenizer.tokens.Tokens.fast_lexeme.Goals as goal
 
 pub returns-then-begins_with_name-clause-item : goal.returns-then-begins_with_name-clause-item
 returns-then-begins_with_name-clause-item c =
-    let cut = c.split_at.ensures in
+    let tokenized = c.split_at.ensures in
     rw (← c.self.view_is)
-    (lexeme_then_rest _ _ _ _ _ _ _ c.in_ok-len.ensures.is refl cut.front cut.back c.in_ok-self-inside.ensures.skips.0 refl refl)
+    (lexeme_then_rest _ _ _ _ _ _ _ c.in_ok-len.ensures.is refl tokenized.front tokenized.back c.in_ok-self-inside.ensures.skips.0 refl refl)
 
 pub invariant_of-self-in-Some : goal.invariant_of-self-in-Some
 invariant_of-self-in-Some c =
@@ -35,9 +35,9 @@ returns-in-Some-clause-item c =
     let w : Where = record { position = s.position; offset = s.size - length s.rest.now; openers = s.brackets.openers; closers = s.brackets.closers } in
     let t : Taken = record { len = 1; kind = Punctuator; nesting = c.in-Some.nesting } in
     let deep : is_too_deep t.nesting w ≡ false = sym (c.is_too_deep.ensures w refl refl) ∙ c.if-is_too_deep.false in
-    let cut = c.split_at-in-Some.ensures in
+    let tokenized = c.split_at-in-Some.ensures in
     let after = c.after-self-inside.ensures in
-    rw (← c.self.view_is) (lexeme_then_rest w _ _ _ _ _ t c.in-Some.ensures.is deep cut.front cut.back
+    rw (← c.self.view_is) (lexeme_then_rest w _ _ _ _ _ t c.in-Some.ensures.is deep tokenized.front tokenized.back
     c.in_ok-self-inside-2.ensures.skips.0 after.openers after.closers)
 
 pub invariant_of-self-2 : goal.invariant_of-self-2
@@ -64,9 +64,9 @@ returns-clause-item c =
     let w : Where = record { position = s.position; offset = s.size - length s.rest.now; openers = s.brackets.openers; closers = s.brackets.closers } in
     let t = c.in_ok-taken.taken in
     let deep : is_too_deep t.nesting w ≡ false = sym (c.is_too_deep-2.ensures w refl refl) ∙ c.if-is_too_deep-2.false in
-    let cut = c.split_at-2.ensures in
+    let tokenized = c.split_at-2.ensures in
     let after = c.after-self-inside-2.ensures in
-    rw (← c.self.view_is) (lexeme_then_rest w _ _ _ _ _ t c.in_ok-taken.ensures.is deep cut.front cut.back
+    rw (← c.self.view_is) (lexeme_then_rest w _ _ _ _ _ t c.in_ok-taken.ensures.is deep tokenized.front tokenized.back
     c.in_ok-self-inside-3.ensures.skips.0 after.openers after.closers)
 
 pub name_in_one_load-requires-clause-long : goal.name_in_one_load-requires-clause-long

@@ -27,7 +27,7 @@ returns c =
     let w : Where = record { position = s.position; offset = s.size - length s.rest.now; openers = s.brackets.openers; closers = s.brackets.closers } in
     let t = c.in-Some.taken in
     let deep : is_too_deep t.nesting w ≡ false = sym (c.is_too_deep.ensures w refl refl) ∙ c.if-is_too_deep.false in
-    let cut = c.split_at.ensures in
+    let tokenized = c.split_at.ensures in
     let after = c.after-self-inside.ensures in
     let left = skips_contents c.split_at.result.1.now s.position c.skip_ignored.result.0.now c.skip_ignored.result.1 c.skip_ignored.ensures.skips in
-    rw (← c.self.view_is) (lexeme_then_rest w _ _ _ _ _ t c.in-Some.ensures.is deep cut.front cut.back left after.openers after.closers)
+    rw (← c.self.view_is) (lexeme_then_rest w _ _ _ _ _ t c.in-Some.ensures.is deep tokenized.front tokenized.back left after.openers after.closers)

@@ -23,8 +23,8 @@ returns-clause-text g c =
     (rw c.word.ensures (operation_text (keyword o.kind) (operation_name_layout o.name) (variable_definitions_layout style o.variables)
     (directives_layout style 0 o.directives) (selection_set_layout style 0 o.selected)))
 
-pub returns-clause-lawful : goal.returns-clause-lawful
-returns-clause-lawful g c =
-    let variables = rw c.deref.ensures.value at c.in_ok-write_variable_definitions.ensures.lawful in
-    let directives = rw c.deref-2.ensures.value at c.in_ok-write_directives.ensures.lawful in
-    on_ok_weaker c.write_selection_set.result (λ set. (variables, directives, set)) c.write_selection_set.ensures.lawful
+pub returns-clause-well_formed : goal.returns-clause-well_formed
+returns-clause-well_formed g c =
+    let variables = rw c.deref.ensures.value at c.in_ok-write_variable_definitions.ensures.well_formed in
+    let directives = rw c.deref-2.ensures.value at c.in_ok-write_directives.ensures.well_formed in
+    on_ok_weaker c.write_selection_set.result (λ set. (variables, directives, set)) c.write_selection_set.ensures.well_formed

@@ -28,8 +28,8 @@ returns-clause-text g c =
     and_last g.S.Sink.took more _ _ _ _ _ _ _ written c.push_str-3.ensures
     (rw c.view.ensures (field_text c.args.style.now c.args.margin (field_view g.N.Names.bytes c.args.self.now)))
 
-pub returns-clause-lawful : goal.returns-clause-lawful
-returns-clause-lawful g c =
-    let arguments = rw c.deref.ensures.value at c.in_ok-write_arguments.ensures.lawful in
-    let directives = rw c.deref-2.ensures.value at c.in_ok-write_directives.ensures.lawful in
+pub returns-clause-well_formed : goal.returns-clause-well_formed
+returns-clause-well_formed g c =
+    let arguments = rw c.deref.ensures.value at c.in_ok-write_arguments.ensures.well_formed in
+    let directives = rw c.deref-2.ensures.value at c.in_ok-write_directives.ensures.well_formed in
     on_ok c.push_str-3.result (arguments, directives)

@@ -2,7 +2,7 @@ use Rattle.std.proofs.Common.{◌^◌, codes, inl, inr, map, sym}
 use Rattle.graphql_core.specs.{gap}
 use Rattle.std.proofs.lemmas.Result.{on_ok_weaker}
 use Rattle.graphql_core.proofs.{and_alone, and_last, text_append, all_seen}
-use Rattle.graphql_schema.specs.{IsLawfulField, IsLawfulEnumValue, members_layout, field_layout, field_levels}
+use Rattle.graphql_schema.specs.{IsWellFormedField, IsWellFormedEnumValue, members_layout, field_layout, field_levels}
 use Rattle.graphql_schema.specs.{enum_value_layout, enum_value_levels, field_view, enum_value_view}
 use Rattle.graphql_schema.proofs.{block_fits, block_written}
 use Rattle.graphql_schema.proofs.print.parts.PartsPretty.write.Goals as goal
@@ -22,11 +22,11 @@ returns-in-Object-clause-text g c =
     let written = and_alone g.S.Sink.took g.met.S.Sink.took_more _ _ _ _ _ c.write_block-in-Object.ensures.text text in
     elim c.in-Object.is [ inl e ↦ rw e.1 written | inr e ↦ rw e.1 written ]
 
-pub returns-in-Object-clause-lawful : goal.returns-in-Object-clause-lawful
-returns-in-Object-clause-lawful g c =
-    let each = all_seen (field_view g.N.Names.bytes) IsLawfulField c.in-Object.fields.now in
-    let lawful = on_ok_weaker c.write_block-in-Object.result each c.write_block-in-Object.ensures.lawful in
-    elim c.in-Object.is [ inl e ↦ rw e.1 lawful | inr e ↦ rw e.1 lawful ]
+pub returns-in-Object-clause-well_formed : goal.returns-in-Object-clause-well_formed
+returns-in-Object-clause-well_formed g c =
+    let each = all_seen (field_view g.N.Names.bytes) IsWellFormedField c.in-Object.fields.now in
+    let well_formed = on_ok_weaker c.write_block-in-Object.result each c.write_block-in-Object.ensures.well_formed in
+    elim c.in-Object.is [ inl e ↦ rw e.1 well_formed | inr e ↦ rw e.1 well_formed ]
 
 -- ---- of a union
 
@@ -50,7 +50,7 @@ returns-in-Enum-clause-text g c =
     let text = block_written (enum_value_view g.N.Names.bytes) (enum_value_layout style) style.indent c.in-Enum.values.now in
     rw c.in-Enum.is (and_alone g.S.Sink.took g.met.S.Sink.took_more _ _ _ _ _ c.write_block.ensures.text text)
 
-pub returns-in-Enum-clause-lawful : goal.returns-in-Enum-clause-lawful
-returns-in-Enum-clause-lawful g c =
-    let each = all_seen (enum_value_view g.N.Names.bytes) IsLawfulEnumValue c.in-Enum.values.now in
-    rw c.in-Enum.is (on_ok_weaker c.write_block.result each c.write_block.ensures.lawful)
+pub returns-in-Enum-clause-well_formed : goal.returns-in-Enum-clause-well_formed
+returns-in-Enum-clause-well_formed g c =
+    let each = all_seen (enum_value_view g.N.Names.bytes) IsWellFormedEnumValue c.in-Enum.values.now in
+    rw c.in-Enum.is (on_ok_weaker c.write_block.result each c.write_block.ensures.well_formed)

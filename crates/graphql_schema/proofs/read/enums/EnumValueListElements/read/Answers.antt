@@ -18,12 +18,12 @@ pub returns-clause-reads : goal.returns-clause-reads
 returns-clause-reads g c =
     let bytes = g.S.Names.Names.bytes in
     let old = g.S.TokenSource.items c.args.source.now in
-    let (d, described, tells) = c.in_ok-description.ensures in
+    let (d, described, keyworded) = c.in_ok-description.ensures in
     let (n, named, spelled) = c.in_ok-name.ensures in
     let (ds, directed, directs) = lifted refl refl c.in_ok-directives.ensures in
     whole (past (past (begun enum_value_symbol (λ x. refl)) described) (took named refl)) directed
     (adds_reserved (enum_value_view bytes) _ _ _ _ _ c.in_ok-reserve.ensures.items c.push_reserved.ensures.items
-    (same_enum_value (c.position-position.ensures ∙ sym (described_at old _ _ d n described named)) tells spelled
+    (same_enum_value (c.position-position.ensures ∙ sym (described_at old _ _ d n described named)) keyworded spelled
     directs))
 
 pub returns-clause-shorter : goal.returns-clause-shorter

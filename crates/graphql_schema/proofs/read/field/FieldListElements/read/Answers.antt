@@ -37,7 +37,7 @@ pub returns-clause-reads : goal.returns-clause-reads
 returns-clause-reads g c =
     let bytes = g.S.Names.Names.bytes in
     let old = g.S.TokenSource.items c.args.source.now in
-    let (d, described, tells) = c.in_ok-description.ensures in
+    let (d, described, keyworded) = c.in_ok-description.ensures in
     let (n, named, spelled) = c.in_ok-name.ensures in
     let (vs, defined, defines) = c.in_ok-arguments.ensures in
     let (t, typed, seen) = lifted refl refl c.in_ok-field_type.ensures in
@@ -45,7 +45,7 @@ returns-clause-reads g c =
     let before = past (past (past (begun field_symbol (λ x. refl)) described) (took named refl)) defined in
     whole (past (past before (took c.in_ok-expect_punctuator.ensures.1 refl)) typed) directed
     (adds_reserved (field_view bytes) _ _ _ _ _ c.in_ok-reserve.ensures.items c.push_reserved.ensures.items
-    (same_field (c.position-position.ensures ∙ sym (described_at old _ _ d n described named)) tells spelled
+    (same_field (c.position-position.ensures ∙ sym (described_at old _ _ d n described named)) keyworded spelled
     defines seen directs))
 
 pub returns-clause-shorter : goal.returns-clause-shorter
