@@ -6,6 +6,7 @@ use Rattle.graphql_core.specs.layouts.ValueLayout.{boolean_name}
 mutual
   -- a value; names and strings are their bytes, in UTF-8
   pub data Json : Type 0 where
+    null : Json
     boolean : Bool → Json
     number : ℕ → Json
     string : List ℕ → Json
@@ -30,6 +31,7 @@ separator true = codes ","
 -- below U+0020. All other characters are written as they are.
 unfoldable mutual
   pub json_text : Json → List ℕ
+  json_text null = codes "null"
   json_text (boolean b) = boolean_name b
   json_text (number n) = decimal n
   json_text (string s) = quoted s

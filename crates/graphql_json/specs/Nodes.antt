@@ -33,20 +33,18 @@ node kind ms = json.object (members_of (one (codes "kind") (json.string kind) ++
 abbrev pub each : List ℕ → List Json → List Member
 each name vs = one name (json.array (elements_of vs))
 
--- the line and the column of a node
-unfoldable pub located : Place → List Member
-located p =
-    one (codes "loc")
-    (json.object (members_of (one (codes "line") (json.number p.line) ++ one (codes "column") (json.number p.column))))
+-- a line and a column
+unfoldable pub place_json : Place → Json
+place_json p =
+    json.object (members_of (one (codes "line") (json.number p.line) ++ one (codes "column") (json.number p.column)))
 
--- the same with the line and the column of its last token
+-- the position of a node
+unfoldable pub located : Place → List Member
+located p = one (codes "position") (place_json p)
+
+-- the same with the position of its last token
 unfoldable pub spanned : Place → Place → List Member
-spanned p q =
-    one (codes "loc")
-    (json.object (members_of
-    (one (codes "line") (json.number p.line)
-    ++ (one (codes "column") (json.number p.column)
-    ++ (one (codes "endLine") (json.number q.line) ++ one (codes "endColumn") (json.number q.column))))))
+spanned p q = located p ++ one (codes "endPosition") (place_json q)
 
 -- a document with these definitions
 abbrev pub document_node : List Json → Json

@@ -3,7 +3,8 @@ ghost use Rattle.std.specs.Prelude.{[], codes, OnOk};
 ghost use Rattle.graphql_core.specs.{decimal, place_of, quoted};
 ghost use Rattle.graphql_core.specs.layouts.ValueLayout.{boolean_name};
 ghost use Rattle.graphql_json.specs.steps.Pieces.{Appends};
-ghost use Rattle.graphql_json.specs.{separator, one, each, label, later, opening, located, spanned};
+ghost use Rattle.graphql_json.specs.{json_text, separator, one, each, label, later, opening, place_json, located};
+ghost use Rattle.graphql_json.specs.{spanned};
 ghost use Rattle.graphql_json.specs.Json as json;
 
 use graphql_core::format::{Buffer, Sink, print};
@@ -86,30 +87,32 @@ fn write_number(out: &mut Buffer, number: usize) -> Result<(), AllocError>
     write_text(out, digits.format(number))
 }
 
-/// Appends the position of a node.
-pub fn write_position(out: &mut Buffer, position: &Pos) -> Result<(), AllocError>
-    ensures { OnOk result (Appends out.old (later (located (place_of position.now))) out.new) }
+/// Appends a line and a column.
+fn write_place(out: &mut Buffer, position: &Pos) -> Result<(), AllocError>
+    ensures { OnOk result (Appends out.old (json_text (place_json (place_of position.now))) out.new) }
 {
-    write_text(out, ",\"loc\":{\"line\":")?;
+    write_text(out, "{\"line\":")?;
     write_number(out, position.line)?;
     write_text(out, ",\"column\":")?;
     write_number(out, position.column)?;
     write_text(out, "}")
 }
 
+/// Appends the position of a node.
+pub fn write_position(out: &mut Buffer, position: &Pos) -> Result<(), AllocError>
+    ensures { OnOk result (Appends out.old (later (located (place_of position.now))) out.new) }
+{
+    write_label(out, "position")?;
+    write_place(out, position)
+}
+
 /// Appends the positions of the first and the last token of a node.
 pub fn write_span(out: &mut Buffer, span: &(Pos, Pos)) -> Result<(), AllocError>
     ensures { OnOk result (Appends out.old (later (spanned (place_of span.now.0) (place_of span.now.1))) out.new) }
 {
-    write_text(out, ",\"loc\":{\"line\":")?;
-    write_number(out, span.0.line)?;
-    write_text(out, ",\"column\":")?;
-    write_number(out, span.0.column)?;
-    write_text(out, ",\"endLine\":")?;
-    write_number(out, span.1.line)?;
-    write_text(out, ",\"endColumn\":")?;
-    write_number(out, span.1.column)?;
-    write_text(out, "}")
+    write_position(out, &span.0)?;
+    write_label(out, "endPosition")?;
+    write_place(out, &span.1)
 }
 
 /// Begins a node with its kind.

@@ -1,12 +1,10 @@
-use Rattle.std.proofs.Common.{append_assoc, append-nil}
-use Rattle.graphql_json.specs.{later, located, one}
-use Rattle.graphql_json.specs.Json.{json_text, members_text}
-use Rattle.graphql_json.proofs.{◌▹◌, then_last}
+use Rattle.std.proofs.Common.{sym}
+use Rattle.graphql_json.specs.{located}
+use Rattle.graphql_json.proofs.{then_last, later-one}
 use Rattle.graphql_json.proofs.json.write_position.Goals as goal
 
 pub returns : goal.returns
-unfolding later located one json_text members_text
+unfolding located
 returns c =
-    then_last _ _ _
-    (c.in_ok-write_text.ensures ▹ c.in_ok-write_number.ensures ▹ c.in_ok-write_text-2.ensures ▹ c.in_ok-write_number-2.ensures) c.write_text-3.ensures
-    (simp (append_assoc, append-nil))
+    then_last _ _ _ c.in_ok-write_label.ensures c.write_place.ensures
+    (sym (later-one _ _))

@@ -1,13 +1,10 @@
-use Rattle.std.proofs.Common.{append_assoc, append-nil}
-use Rattle.graphql_json.specs.{later, spanned, one}
-use Rattle.graphql_json.specs.Json.{json_text, members_text}
-use Rattle.graphql_json.proofs.{◌▹◌, then_last}
+use Rattle.std.proofs.Common.{append_assoc}
+use Rattle.graphql_json.specs.{spanned}
+use Rattle.graphql_json.proofs.{◌▹◌, then_last, later-one, later-append}
 use Rattle.graphql_json.proofs.json.write_span.Goals as goal
 
 pub returns : goal.returns
-unfolding later spanned one json_text members_text
+unfolding spanned
 returns c =
-    then_last _ _ _
-    (c.in_ok-write_text.ensures ▹ c.in_ok-write_number.ensures ▹ c.in_ok-write_text-2.ensures ▹ c.in_ok-write_number-2.ensures
-    ▹ c.in_ok-write_text-3.ensures ▹ c.in_ok-write_number-3.ensures ▹ c.in_ok-write_text-4.ensures ▹ c.in_ok-write_number-4.ensures) c.write_text-5.ensures
-    (simp (append_assoc, append-nil))
+    then_last _ _ _ (c.in_ok-write_position.ensures ▹ c.in_ok-write_label.ensures) c.write_place.ensures
+    (simp (later-append, later-one, append_assoc))
