@@ -1,5 +1,5 @@
 -- Which inputs are accepted, from what formatting returned.
-use Rattle.std.proofs.Common.{◌≡◌, ◌≢◌, ◌≤◌, ℕ, List, length, Option, Some, None, Ok, Err, String, inl, inr, sym, subst, ◌∙◌, IfSome}
+use Rattle.std.proofs.Common.{◌≡◌, ◌≢◌, ◌≤◌, ℕ, List, length, Option, Some, None, Result, Ok, Err, IfOk, String, inl, inr, sym, subst, ◌∙◌, IfSome}
 use Rattle.std.specs.Global.{Global}
 use Rattle.std.proofs.lemmas.Bool.{cases_lt}
 use Rattle.graphql_core.specs.{max_length}
@@ -24,7 +24,7 @@ module _ (source : List ℕ) where
   rejected e other some accepts (short, inr doc) = other (accepts.complete short doc)
 
 -- what is done with a formatted text of an accepted source
-pub fits : (t : Task) (source : List ℕ) (a : Action) (formatted : List ℕ) → IsActionFor t source formatted a
+fits : (t : Task) (source : List ℕ) (a : Action) (formatted : List ℕ) → IsActionFor t source formatted a
     → IsAccepted source → IsFormattedOf source formatted → IsActionOn t source a
 fits t source action.Keep formatted is taken (keeps, tidy) = (is.0, taken, subst IsTidy is.1 tidy)
 fits t source (action.Print text) formatted is taken new = (is.0, taken, subst (IsFormattedOf source) (sym is.1) new)
@@ -32,6 +32,12 @@ fits t source (action.Report text) formatted is taken new = (is.0, taken)
 fits t source (action.Replace text) formatted is taken new =
     (is.0, taken, subst (IsFormattedOf source) (sym is.1) new, λ same. is.2 (sym is.1 ∙ same))
 fits t source (action.Reject message) formatted is taken new = absurd is
+
+-- the same of an action that a call returns
+pub all_fit : {E : Type 0} (r : Result Action E) (t : Task) (source formatted : List ℕ) → IfOk r (IsActionFor t source formatted)
+    → IsAccepted source → IsFormattedOf source formatted → IfOk r (IsActionOn t source)
+all_fit (Ok a) t source formatted is taken new = fits t source a formatted is taken new
+all_fit (Err e) t source formatted is taken new = tt
 
 pub at_some : {A : Type 0} (P : A → Type 0) (o : Option A) (x : A) → o ≡ Some x → IfSome o P → P x
 at_some P o x is h = subst (λ p. IfSome p P) is h

@@ -4,7 +4,6 @@ ghost use Rattle.gqlfmt.specs.{IsActionFor, IsActionOn};
 
 use crate::arguments::{Request, Task};
 use crate::diff::unified;
-use crate::error::InputError;
 use crate::message::rejection;
 use crate::name::Shown;
 use graphql_fmt::{format_comments, format_source};
@@ -47,23 +46,24 @@ fn action_for(
     }
 }
 
-/// Formats an input, and decides what is to be done about it. An input without a token is formatted too.
+/// Formats an input, and decides what is to be done about it. An input without a token is formatted too. The error is
+/// that an allocation failed.
 pub fn decide(
     alloc: Global,
     request: &Request,
     name: &str,
     source: &str,
-) -> Result<Action, InputError>
+) -> Result<Action, AllocError>
     ensures { IfOk result (IsActionOn request.now.task source.now) }
 {
     if let Some(formatted) = format_comments(alloc, source, &request.options)? {
-        return Ok(action_for(alloc, request.task, name, source, formatted)?);
+        return action_for(alloc, request.task, name, source, formatted);
     }
     match format_source(alloc, source, &request.options) {
-        Ok(formatted) => Ok(action_for(alloc, request.task, name, source, formatted)?),
-        Err(error) => match rejection(alloc, name, source, &error, &request.messages)? {
-            Some(message) => Ok(Action::Reject(message)),
-            None => Err(InputError::OutOfMemory),
-        },
+        Ok(formatted) => action_for(alloc, request.task, name, source, formatted),
+        Err(error) => {
+            let message = rejection(alloc, name, source, &error, &request.messages)?;
+            Ok(Action::Reject(message))
+        }
     }
 }

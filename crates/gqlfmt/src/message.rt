@@ -1,11 +1,11 @@
 //! The message for an input that is rejected.
-ghost use Rattle.std.specs.Prelude.{◌≡◌, ◌≢◌, false, IfOk, IfSome};
+ghost use Rattle.std.specs.Prelude.{◌≡◌, ◌≢◌, false, IfOk};
 ghost use Rattle.graphql_standard.specs.declared.error.CheckError.TheVariants.{OutOfMemory};
 
 use crate::arguments::{MessageFormat, MessageOptions};
 use crate::name::Shown;
 use crate::report::to_json;
-use graphql_fmt::{CheckError, MAX_OPEN_BRACKETS, Place, last_line, message};
+use graphql_fmt::{CheckError, MAX_OPEN_BRACKETS, error_len, error_place, last_line, message};
 use graphql_standard::check_all;
 use std::alloc::{AllocError, Global};
 use unicode_width::UnicodeWidthChar;
@@ -98,15 +98,6 @@ fn excerpt_of(alloc: Global, front: &str, rest: &str, len: usize) -> Result<Stri
     format!(in alloc; "{line}\n{marks}\n")
 }
 
-/// How many bytes of the source the error has.
-fn len_of(error: &CheckError) -> usize {
-    match error {
-        CheckError::Syntax(error) => error.len,
-        CheckError::TooDeep(_) => 1,
-        CheckError::TooLong | CheckError::OutOfMemory => 0,
-    }
-}
-
 /// Whether an allocation failed.
 fn is_out_of_memory(error: &CheckError) -> bool
     ensures { result ≡ false → error.now ≢ OutOfMemory }
@@ -126,17 +117,17 @@ fn push_message(
     format: MessageFormat,
 ) -> Result<(), AllocError> {
     if format == MessageFormat::Json {
-        messages.push_str(&to_json(alloc, name, source, error, len_of(error))?)?;
+        messages.push_str(&to_json(alloc, name, source, error)?)?;
         return messages.push('\n');
     }
     let name = Shown(name);
-    let place = error.place().unwrap_or(Place::after(""));
+    let place = error_place(error);
     let message = message(alloc, source, error)?;
     write!(messages, "{name}:{place}: {message}\n")?;
     if format == MessageFormat::Long {
         let parts = source.split_at_checked(place.offset);
         let (front, rest) = parts.unwrap_or((source, ""));
-        messages.push_str(&excerpt_of(alloc, front, rest, len_of(error))?)?;
+        messages.push_str(&excerpt_of(alloc, front, rest, error_len(error))?)?;
     }
     Ok(())
 }
@@ -162,21 +153,21 @@ fn push_later(
 }
 
 /// The messages for a source that is rejected with this error: the error, then those of the following definitions, and
-/// how many more there are. `None` if formatting ran out of memory.
+/// how many more there are. The error is that an allocation failed, here or when the source was formatted.
 pub fn rejection(
     alloc: Global,
     name: &str,
     source: &str,
     error: &CheckError,
     options: &MessageOptions,
-) -> Result<Option<String>, AllocError>
-    ensures { IfOk result (λ found. IfSome found (λ message. error.now ≢ OutOfMemory)) }
+) -> Result<String, AllocError>
+    ensures { IfOk result (λ message. error.now ≢ OutOfMemory) }
 {
     if is_out_of_memory(error) {
-        return Ok(None);
+        return Err(AllocError);
     }
     let mut messages = String::new(alloc);
     push_message(alloc, &mut messages, name, source, error, options.format)?;
     push_later(alloc, &mut messages, name, source, options)?;
-    Ok(Some(messages))
+    Ok(messages)
 }

@@ -1,6 +1,6 @@
 //! Errors of inputs as JSON.
 
-use graphql_fmt::{CheckError, Place, expected_words, found_words, inner_place, message};
+use graphql_fmt::{CheckError, ErrorReport, report};
 use serde::Serialize;
 use serde_json::to_string;
 use std::alloc::{AllocError, Global};
@@ -30,33 +30,30 @@ struct Report<'a> {
     expected: Vec<&'static str>,
 }
 
-/// Returns an error of an input as a JSON object in one line. The error has this many bytes. The only error is out of
-/// memory.
+/// Returns an error of an input as a JSON object in one line. The only error is out of memory.
 pub fn to_json(
     alloc: Global,
     name: &str,
     source: &str,
     error: &CheckError,
-    length: usize,
 ) -> Result<String, AllocError> {
-    let place = error.place().unwrap_or(Place::after(""));
-    let (inner, found, expected) = match error {
-        CheckError::Syntax(error) => (
-            inner_place(source, error),
-            Some(found_words(alloc, source, error)?),
-            expected_words(alloc, &error.expected)?,
-        ),
-        _ => (None, None, Vec::new(alloc)),
-    };
+    let ErrorReport {
+        place,
+        len,
+        inner,
+        message,
+        found,
+        expected,
+    } = report(alloc, source, error)?;
     let report = Report {
         path: name,
         line: place.line,
         column: place.column,
         offset: place.offset,
-        length,
+        length: len,
         inner_column: inner.map(|place| place.column),
         inner_offset: inner.map(|place| place.offset),
-        message: message(alloc, source, error)?,
+        message,
         found,
         expected,
     };

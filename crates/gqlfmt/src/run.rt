@@ -1,12 +1,12 @@
 //! Runs a request on files and on standard input and output.
-ghost use Rattle.std.specs.Prelude.{◌≡◌, ◌⊎◌, IfOk, IfSome, OnOk};
+ghost use Rattle.std.specs.Prelude.{◌≡◌, ◌⊎◌, IfOk, IfSome, OnOk, string_bytes};
 ghost use Rattle.std.specs.Io.KnownBytes.{Appends};
 ghost use Rattle.gqlfmt.specs.{IsDone, IsOutcomeOf};
 
 use crate::action::{Action, decide};
 use crate::arguments::{Inputs, Request, Task};
 use crate::error::InputError;
-use crate::files::{Source, find_files, read_file, read_text, replace_text};
+use crate::files::{Source, find_files, read_file, read_text, replace_text, write_text};
 use crate::name::Shown;
 use crate::outcome::{Outcome, Tally};
 use crate::words::unreadable;
@@ -19,7 +19,7 @@ use std::rt::Files;
 fn print<W: Write>(output: &mut W, text: &str) -> io::Result<()>
     ensures { OnOk result (Appends (W.contents output.old) (W.contents output.new) text.now) }
 {
-    output.write_all(text.as_bytes())?;
+    write_text(output, text)?;
     output.flush()
 }
 
@@ -96,8 +96,23 @@ fn format_text<R: Files<File = File> + AllocGlobal + Eprint, W: Write>(
 {
     match decide(rt.alloc(), request, name, text) {
         Ok(action) => perform(rt, output, name, metadata, action),
-        Err(error) => Ok(fail(rt, name, &error)),
+        Err(_) => Ok(fail(rt, name, &InputError::OutOfMemory)),
     }
+}
+
+/// Formats a file that was read. The error is that of standard output.
+fn format_read<R: Files<File = File> + AllocGlobal + Eprint, W: Write>(
+    rt: &R,
+    output: &mut W,
+    request: &Request,
+    path: &str,
+    source: &Source,
+) -> io::Result<Outcome>
+    ensures { IfOk result (IsOutcomeOf request.now.task (string_bytes source.now.text)
+        (W.contents output.old) (W.contents output.new)) }
+{
+    let metadata = Some(&source.metadata);
+    format_text(rt, output, request, path, &source.text, metadata)
 }
 
 /// Formats a file. The error is that of standard output.
@@ -108,9 +123,7 @@ fn format_file<R: Files<File = File> + AllocGlobal + Eprint, W: Write>(
     path: &str,
 ) -> io::Result<Outcome> {
     match read_file(rt, path) {
-        Ok(Source { text, metadata }) => {
-            format_text(rt, output, request, path, &text, Some(&metadata))
-        }
+        Ok(source) => format_read(rt, output, request, path, &source),
         Err(error) => Ok(fail(rt, path, &error)),
     }
 }

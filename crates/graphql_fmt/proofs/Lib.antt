@@ -8,3 +8,4 @@ pub mod KeptValues
 pub mod SameTrees
 pub mod Formatting
 pub mod NoTokens
+pub mod SourceErrors

@@ -2,6 +2,7 @@ pub mod Accepting
 pub mod Comments
 pub mod Formatting
 pub mod Keeping
+pub mod Reporting
 pub mod Tidy
 pub mod Trees
 pub mod steps
@@ -10,5 +11,6 @@ pub use Comments.{HasNoToken}
 pub use Formatting.{AcceptsDocuments, HasSameDocuments}
 pub use Keeping.{HasKept, KeepsAll, KeepsIn, Kept, KeptBlock, KeptComment, KeptToken}
 pub use Keeping.{kept, kept_element, kept_token, trimmed}
+pub use Reporting.{HasSourceErrors, IsReportOf, error_len, error_place}
 pub use Tidy.{AreAfterGaps, AreFormatted, IsBlockString, IsGap, IsTidy, IsWrittenAs}
 pub use Trees.{HasSameTrees, HasTree, IsSameTree, form_of}

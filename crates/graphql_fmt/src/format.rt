@@ -6,7 +6,7 @@ ghost use Rattle.graphql_query.specs.{queries};
 ghost use Rattle.graphql_schema.specs.{schemas};
 ghost use Rattle.graphql_standard.specs.declared.error.CheckError.TheVariants.{OutOfMemory};
 ghost use Rattle.graphql_fmt.specs.{HasNoToken, KeepsAll, AcceptsDocuments, HasSameDocuments, IsTidy, ParsesTo};
-ghost use Rattle.graphql_fmt.specs.{IsParsedDocument};
+ghost use Rattle.graphql_fmt.specs.{IsParsedDocument, IsStandardDocument, HasSourceErrors};
 ghost use Rattle.graphql_fmt.specs.steps.Pieces.{ArePieces, ArePiecesOf};
 
 use crate::layout::gaps;
@@ -15,7 +15,7 @@ use crate::pieces::{Piece, checked_pieces, joined, pieces_of};
 use graphql_core::common::{Cause, MAX_LENGTH};
 use graphql_core::tokenizer::Tokens;
 use graphql_parser::{parse_query, parse_schema};
-use graphql_standard::CheckError;
+use graphql_standard::{CheckError, check, check_all};
 use std::alloc::{AllocError, Global};
 
 /// How many brackets can be open in a document of September 2025 that [`format_source`] accepts.
@@ -175,5 +175,35 @@ pub fn format_comments(
         Some(pieces) => Ok(Some(written(alloc, options, &pieces)?)),
         // The input has no lexical error.
         None => unreachable!(),
+    }
+}
+
+/// The errors of a source of at most `MAX_LENGTH` bytes that is no document of September 2025.
+fn errors_unless_accepted(alloc: Global, source: &str) -> Result<Vec<CheckError>, AllocError>
+    requires length { length source.now ≤ max_length }
+    requires not_standard { IsStandardDocument source.now → ⊥ }
+    ensures { IfOk result (λ errors. HasSourceErrors source.now errors.items) }
+{
+    if has_no_token(source) || is_parsed(alloc, source)? {
+        return Ok(Vec::new(alloc));
+    }
+    check_all(alloc, source, MAX_OPEN_BRACKETS)
+}
+
+/// Returns the errors of a source: none, if [`format_source`] or [`format_comments`] accepts it. Otherwise its first error
+/// by the specification of September 2025, and those after it. After an error checking begins again at the next
+/// definition that begins a line. The only error of the call is out of memory.
+pub fn check_source(alloc: Global, source: &str) -> Result<Vec<CheckError>, AllocError>
+    ensures { IfOk result (λ errors. HasSourceErrors source.now errors.items) }
+{
+    match check(alloc, source, MAX_OPEN_BRACKETS) {
+        Ok(()) => Ok(Vec::new(alloc)),
+        Err(CheckError::OutOfMemory) => Err(AllocError),
+        Err(CheckError::TooLong) => {
+            let mut errors = Vec::new(alloc);
+            errors.push(CheckError::TooLong)?;
+            Ok(errors)
+        }
+        Err(_) => errors_unless_accepted(alloc, source),
     }
 }

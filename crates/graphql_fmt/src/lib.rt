@@ -12,11 +12,13 @@ mod layout;
 mod messages;
 mod options;
 mod pieces;
+mod reports;
 
-pub use format::{MAX_OPEN_BRACKETS, format_comments, format_source};
+pub use format::{MAX_OPEN_BRACKETS, check_source, format_comments, format_source};
 pub use graphql_standard::{
     CheckError, ExpectedSet, Found, Place, SyntaxError, Terminal, last_line,
 };
 pub use laws::kept_tokens_have_one_document;
 pub use messages::{expected_words, found_words, inner_place, message};
 pub use options::FormatOptions;
+pub use reports::{ErrorReport, error_len, error_place, report};

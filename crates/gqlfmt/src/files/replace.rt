@@ -1,8 +1,9 @@
 //! Rewriting a file, so that it has the old text or the new one at each moment.
 
 use crate::error::InputError;
+use crate::files::write_text;
 use std::fs::{File, Metadata, OpenOptions};
-use std::io::{ErrorKind, Write};
+use std::io::ErrorKind;
 use std::os::fd::AsFd;
 use std::os::unix::fs::{MetadataExt, OpenOptionsExt, fchown};
 use std::rt::Files;
@@ -92,7 +93,7 @@ fn keep_owner(file: &File, old: &Metadata) -> io::Result<()> {
 /// Writes a text to a new file, with the owner, the group and the mode of an old one. Then it waits until the file is
 /// on the disk.
 fn fill(file: &mut File, text: &str, old: &Metadata) -> Result<(), InputError> {
-    file.write_all(text.as_bytes()).map_err(InputError::Write)?;
+    write_text(file, text).map_err(InputError::Write)?;
     keep_owner(file, old).map_err(InputError::Owner)?;
     // A change of the owner can clear bits of the mode, so the mode comes after it.
     file.set_permissions(old.permissions())
