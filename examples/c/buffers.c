@@ -12,16 +12,28 @@
 
 typedef graphql_proved_result (*caller)(const uint8_t *text, size_t length, uint8_t *out, size_t capacity);
 
+static graphql_proved_result source(const uint8_t *text, size_t length, uint8_t *out, size_t capacity) {
+    return graphql_proved_format_source(text, length, 3, 10, out, capacity);
+}
+
+static graphql_proved_result check(const uint8_t *text, size_t length, uint8_t *out, size_t capacity) {
+    return graphql_proved_check(text, length, 0, out, capacity);
+}
+
+static graphql_proved_result first_error(const uint8_t *text, size_t length, uint8_t *out, size_t capacity) {
+    return graphql_proved_check(text, length, 1, out, capacity);
+}
+
 static graphql_proved_result query_in_lines(const uint8_t *text, size_t length, uint8_t *out, size_t capacity) {
-    return graphql_proved_format_query(text, length, 3, true, out, capacity);
+    return graphql_proved_normalize_query(text, length, 3, true, out, capacity);
 }
 
 static graphql_proved_result schema(const uint8_t *text, size_t length, uint8_t *out, size_t capacity) {
-    return graphql_proved_format_schema(text, length, 2, false, out, capacity);
+    return graphql_proved_normalize_schema(text, length, 2, false, out, capacity);
 }
 
 static graphql_proved_result query_too_wide(const uint8_t *text, size_t length, uint8_t *out, size_t capacity) {
-    return graphql_proved_format_query(text, length, UINT32_MAX, false, out, capacity);
+    return graphql_proved_normalize_query(text, length, UINT32_MAX, false, out, capacity);
 }
 
 /* What is wanted of a call: its status, its position and its offset. A buffer that is long enough begins with this
@@ -38,17 +50,41 @@ struct wanted {
 #define SCHEMA_AT_START "schema parse error: Parse error at 1:1\n"
 
 #define QUERY_IN_JSON \
-    "{\"kind\":\"Document\",\"definitions\":[{\"kind\":\"OperationDefinition\",\"loc\":{\"line\":1,\"column\":1}," \
-    "\"operation\":\"query\",\"variableDefinitions\":[],\"directives\":[]," \
-    "\"selectionSet\":{\"kind\":\"SelectionSet\"," \
-    "\"loc\":{\"line\":1,\"column\":1,\"endLine\":1,\"endColumn\":3},\"selections\":[{\"kind\":\"Field\"," \
-    "\"loc\":{\"line\":1,\"column\":2},\"name\":{\"kind\":\"Name\",\"value\":\"a\"},\"arguments\":[]," \
+    "{\"kind\":\"Document\",\"definitions\":[{\"kind\":\"OperationDefinition\"," \
+    "\"position\":{\"line\":1,\"column\":1},\"operation\":\"query\",\"variableDefinitions\":[]," \
+    "\"directives\":[],\"selectionSet\":{\"kind\":\"SelectionSet\",\"position\":{\"line\":1,\"column\":1}," \
+    "\"endPosition\":{\"line\":1,\"column\":3},\"selections\":[{\"kind\":\"Field\"," \
+    "\"position\":{\"line\":1,\"column\":2},\"name\":{\"kind\":\"Name\",\"value\":\"a\"},\"arguments\":[]," \
     "\"directives\":[]}]}}]}"
 #define SCHEMA_IN_JSON \
-    "{\"kind\":\"Document\",\"definitions\":[{\"kind\":\"ScalarTypeDefinition\",\"loc\":{\"line\":1,\"column\":1}," \
-    "\"name\":{\"kind\":\"Name\",\"value\":\"A\"},\"directives\":[]}]}"
+    "{\"kind\":\"Document\",\"definitions\":[{\"kind\":\"ScalarTypeDefinition\"," \
+    "\"position\":{\"line\":1,\"column\":1},\"name\":{\"kind\":\"Name\",\"value\":\"A\"},\"directives\":[]}]}"
+
+#define ERROR_IN_JSON \
+    "{\"line\":2,\"column\":4,\"offset\":12,\"length\":1,\"inner_column\":null,\"inner_offset\":null," \
+    "\"message\":\"expected `(` or `:`, found the name `C`\",\"found\":\"the name `C`\"," \
+    "\"expected\":[\"`(`\",\"`:`\"]}"
+#define LATER_IN_JSON \
+    "{\"line\":4,\"column\":11,\"offset\":26,\"length\":1,\"inner_column\":null,\"inner_offset\":null," \
+    "\"message\":\"expected a name or `|`, found the number `1`\",\"found\":\"the number `1`\"," \
+    "\"expected\":[\"a name\",\"`|`\"]}"
 
 static const struct wanted all[] = {
+    {source, "{a(b:1,c:2) # d\n}", GRAPHQL_PROVED_OK, 0, 0, 0, "{\n   a(\n      b: 1\n      c: 2\n   ) # d\n}\n"},
+    {source, "{a} type A{b:C}", GRAPHQL_PROVED_OK, 0, 0, 0, "{\n   a\n}\n\ntype A {\n   b: C\n}\n"},
+    {source, "# a", GRAPHQL_PROVED_OK, 0, 0, 0, "# a\n"},
+    {source, "", GRAPHQL_PROVED_OK, 0, 0, 0, ""},
+    {source, "type A {\n\tb C\n}", GRAPHQL_PROVED_UNEXPECTED_TOKEN, 2, 4, 12, "expected `(` or `:`, found the name"},
+    {source, "{ a \"\xc3\xa9\\d\" }", GRAPHQL_PROVED_BAD_TOKEN, 1, 5, 4, "unexpected "},
+    {source, "{\r\n\xc3\xa9 }", GRAPHQL_PROVED_BAD_TOKEN, 2, 1, 3, "expected "},
+    {source, "{ a", GRAPHQL_PROVED_UNEXPECTED_END, 1, 4, 3, "unexpected end of the input"},
+    {source, "\xff", GRAPHQL_PROVED_NOT_UTF8, 0, 0, 0, "text is not UTF-8"},
+    {check, "{ a } # b", GRAPHQL_PROVED_OK, 0, 0, 0, "[]"},
+    {check, "", GRAPHQL_PROVED_OK, 0, 0, 0, "[]"},
+    {check, "type A {\n\tb C\n}", GRAPHQL_PROVED_OK, 0, 0, 0, "[" ERROR_IN_JSON "]"},
+    {first_error, "type A {\n\tb C\n}\nunion U = 1", GRAPHQL_PROVED_OK, 0, 0, 0, "[" ERROR_IN_JSON "]"},
+    {check, "type A {\n\tb C\n}\nunion U = 1", GRAPHQL_PROVED_OK, 0, 0, 0, "[" ERROR_IN_JSON "," LATER_IN_JSON "]"},
+    {check, "\xff", GRAPHQL_PROVED_NOT_UTF8, 0, 0, 0, "text is not UTF-8"},
     {query_in_lines, "{a(b:1){c}}", GRAPHQL_PROVED_OK, 0, 0, 0, "{\n   a(\n      b: 1\n   ) {\n      c\n   }\n}\n"},
     {schema, "scalar A,scalar B", GRAPHQL_PROVED_OK, 0, 0, 0, "scalar A\n\nscalar B\n"},
     {graphql_proved_minify, "query { a , b }", GRAPHQL_PROVED_OK, 0, 0, 0, "query{a b}"},

@@ -1,5 +1,6 @@
-/* A filter: reads a query document from standard input, and writes it formatted to standard output. The status is 1 if
- * the library returns an error, and 2 if a read, a write or an allocation of this program fails. */
+/* A filter: reads a document from standard input, and writes it formatted with its comments to standard output. The
+ * status is 1 if the library returns an error. Its place and its message are then written on standard error. The status
+ * is 2 if a read, a write or an allocation of this program fails. */
 #include "graphql_proved.h"
 #include <errno.h>
 #include <stdio.h>
@@ -38,7 +39,7 @@ static uint8_t *formatted(const uint8_t *text, size_t length, graphql_proved_res
         uint8_t *out = malloc(capacity);
         if (out == NULL)
             return NULL;
-        *result = graphql_proved_format_query(text, length, 2, false, out, capacity);
+        *result = graphql_proved_format_source(text, length, 2, 80, out, capacity);
         /* At most one of the two lengths is not 0. */
         size_t needed = result->output_length + result->message_length;
         if (needed <= capacity)
@@ -48,14 +49,20 @@ static uint8_t *formatted(const uint8_t *text, size_t length, graphql_proved_res
     }
 }
 
-/* Writes the formatted document, or the message on standard error. Returns the status of the program. */
+/* Writes the place of an error and its message on standard error, in a line. */
+static bool write_error(graphql_proved_result result, const uint8_t *message) {
+    fprintf(stderr, "%zu:%zu: ", result.line, result.column);
+    return write_all(stderr, message, result.message_length) && fputc('\n', stderr) != EOF;
+}
+
+/* Writes the formatted document, or the error. Returns the status of the program. */
 static int write_formatted(const uint8_t *text, size_t length) {
     graphql_proved_result result;
     uint8_t *out = formatted(text, length, &result);
     if (out == NULL)
         return 2;
     bool is_ok = result.status == GRAPHQL_PROVED_OK;
-    bool is_written = write_all(is_ok ? stdout : stderr, out, result.output_length + result.message_length);
+    bool is_written = is_ok ? write_all(stdout, out, result.output_length) : write_error(result, out);
     free(out);
     return !is_written ? 2 : is_ok ? 0 : 1;
 }

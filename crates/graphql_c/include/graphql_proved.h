@@ -1,6 +1,6 @@
 /*
- * graphql_proved: formats, minifies and checks GraphQL documents, and writes them as JSON, by code that is proved
- * correct.
+ * graphql_proved: formats GraphQL documents with their comments, finds their errors, minifies them, and writes them as
+ * JSON, by code that is proved correct.
  *
  * Each call reads the `length` bytes at `text`, and writes at most the `capacity` bytes at `out`. The bytes at `out`
  * need not be initialised: the library is linked as machine code, where each byte has some value, and the proofs hold
@@ -16,9 +16,10 @@
  * What a call takes:
  *  - Reserve 64 KB of stack. No tool of the library measures the stack.
  *  - Its time and memory grow about in proportion to the input and the output.
- *  - With an `indent` of 2, an output can be about 76 times as long as its input, and with `multiline` about 100 times,
- *    since brackets nest up to 50 deep.
- *  - JSON can be about 120 times as long as its input.
+ *  - With an `indent` of 2, the output of a `normalize` call can be about 76 times as long as its input, and with
+ *    `multiline` about 100 times, since brackets nest up to 50 deep. The output of `graphql_proved_format_source` can be
+ *    about 1500 times as long as its input, since brackets nest up to 1,000 deep.
+ *  - JSON can be about 130 times as long as its input.
  *  - `indent` has no limit: `{a}` takes 4 GB with an `indent` of UINT32_MAX. A program that lets others choose `indent`
  *    must limit it.
  */
@@ -50,7 +51,8 @@ enum graphql_proved_status {
     GRAPHQL_PROVED_BAD_TOKEN = 1,            /* there is no valid token */
     GRAPHQL_PROVED_UNEXPECTED_TOKEN = 2,     /* no document continues with this token */
     GRAPHQL_PROVED_UNEXPECTED_END = 3,       /* no document ends there */
-    GRAPHQL_PROVED_TOO_DEEP = 4,             /* a bracket opens, and 50 more open before it than close */
+    GRAPHQL_PROVED_TOO_DEEP = 4,             /* a bracket opens, and 50 more open before it than close; for
+                                              * `graphql_proved_format_source` 1,000 */
     GRAPHQL_PROVED_INT_OUT_OF_RANGE = 5,     /* an integer is outside the range of int64_t */
     GRAPHQL_PROVED_MALFORMED_FLOAT = 6,      /* the exponent of a float has no digit */
     GRAPHQL_PROVED_BAD_ESCAPE = 7,           /* an escape in a string denotes no character */
@@ -86,10 +88,12 @@ typedef struct graphql_proved_result {
      * for the message. No zero byte is added to an output or a message, and the rest of the buffer is unchanged. */
     size_t message_length;
 
-    /* With GRAPHQL_PROVED_OK, for `graphql_proved_first_definition`: where the rest of the input begins. */
+    /* With GRAPHQL_PROVED_OK, for `graphql_proved_first_definition`: where the rest of the input begins. For an error
+     * of `graphql_proved_format_source`: the number of bytes before it. */
     size_t offset;
 
-    /* The position of an error, each from 1. A tab between tokens counts as 8 columns. */
+    /* The position of an error, each from 1. A column counts characters. A tab counts as 1 column in
+     * `graphql_proved_format_source`, and between tokens as 8 in the other calls. */
     size_t line;
     size_t column;
 } graphql_proved_result;
@@ -132,12 +136,21 @@ static inline size_t graphql_proved_json_capacity(size_t length) {
     return 16 * length + 4 * GRAPHQL_PROVED_MESSAGE_CAPACITY;
 }
 
+/* Enough for the JSON of this many errors, with messages of this capacity. */
+static inline size_t graphql_proved_check_capacity(size_t max_errors) {
+    return (max_errors + 1) * 2 * GRAPHQL_PROVED_MESSAGE_CAPACITY;
+}
+
 /* ---- calls ---- */
 
 /* What the library exports. Here no pointer is null, also if its length is 0. C and C++ call the functions below. */
-graphql_proved_result graphql_proved_format_query_nonnull(const uint8_t *text, size_t length, uint32_t indent,
+graphql_proved_result graphql_proved_format_source_nonnull(const uint8_t *text, size_t length, uint32_t indent,
+    uint32_t width, uint8_t *out, size_t capacity);
+graphql_proved_result graphql_proved_check_nonnull(const uint8_t *text, size_t length, size_t max_errors, uint8_t *out,
+    size_t capacity);
+graphql_proved_result graphql_proved_normalize_query_nonnull(const uint8_t *text, size_t length, uint32_t indent,
     bool multiline, uint8_t *out, size_t capacity);
-graphql_proved_result graphql_proved_format_schema_nonnull(const uint8_t *text, size_t length, uint32_t indent,
+graphql_proved_result graphql_proved_normalize_schema_nonnull(const uint8_t *text, size_t length, uint32_t indent,
     bool multiline, uint8_t *out, size_t capacity);
 graphql_proved_result graphql_proved_minify_nonnull(const uint8_t *text, size_t length, uint8_t *out, size_t capacity);
 graphql_proved_result graphql_proved_first_definition_nonnull(const uint8_t *text, size_t length, uint8_t *out,
@@ -151,21 +164,58 @@ graphql_proved_result graphql_proved_query_to_json_nonnull(const uint8_t *text, 
 graphql_proved_result graphql_proved_schema_to_json_nonnull(const uint8_t *text, size_t length, uint8_t *out,
     size_t capacity);
 
-/* Formats a query document, with `indent` spaces for each level. `multiline`, which is 0 or 1, writes each argument,
- * list item and object field on its own line. Comments are dropped: no function of this library keeps them. With a
- * capacity of 0 it returns the length of the output. */
-static inline graphql_proved_result graphql_proved_format_query(const uint8_t *text, size_t length, uint32_t indent,
-    bool multiline, uint8_t *out, size_t capacity) {
+/* Formats a document with its comments: each document of the GraphQL specification of September 2025 with at most 1,000
+ * open brackets, each that `graphql_proved_check_query` or `graphql_proved_check_schema` accepts, and each input that
+ * has no token. `indent` is the number of spaces for each level. `width` is the greatest width of a line that the layout
+ * aims at, in columns of a terminal. The output is that of `gqlfmt`. With a capacity of 0 it returns the length of the
+ * output.
+ *
+ * An error has the `line`, the `column` and the `offset` of the first error by this specification. A column counts
+ * characters, and a tab is one. The statuses of errors are GRAPHQL_PROVED_BAD_TOKEN, GRAPHQL_PROVED_UNEXPECTED_TOKEN,
+ * GRAPHQL_PROVED_UNEXPECTED_END, GRAPHQL_PROVED_TOO_DEEP, GRAPHQL_PROVED_TEXT_TOO_LONG, GRAPHQL_PROVED_OUT_OF_MEMORY
+ * and GRAPHQL_PROVED_NOT_UTF8. */
+static inline graphql_proved_result graphql_proved_format_source(const uint8_t *text, size_t length, uint32_t indent,
+    uint32_t width, uint8_t *out, size_t capacity) {
     uint8_t none = 0;
-    return graphql_proved_format_query_nonnull(length > 0 ? text : &none, length, indent, multiline,
+    return graphql_proved_format_source_nonnull(length > 0 ? text : &none, length, indent, width,
         capacity > 0 ? out : &none, capacity);
 }
 
-/* Formats a schema document, in the same way, without its comments. */
-static inline graphql_proved_result graphql_proved_format_schema(const uint8_t *text, size_t length, uint32_t indent,
+/* Writes the errors of a source as one JSON array, at most `max_errors`, or all of them for 0. The status is
+ * GRAPHQL_PROVED_OK also if there are errors. The array is `[]` exactly for an input that
+ * `graphql_proved_format_source` formats. The other statuses are GRAPHQL_PROVED_BUFFER_TOO_SHORT,
+ * GRAPHQL_PROVED_OUT_OF_MEMORY and GRAPHQL_PROVED_NOT_UTF8.
+ *
+ * After an error the check begins again at the next definition that begins a line. Each error is an object with
+ *  - `line` and `column`: its place, each from 1, where a column counts characters and a tab is one;
+ *  - `offset` and `length`: the number of bytes before the error, and that of the error;
+ *  - `inner_column` and `inner_offset`: the place in a string or a number at which it is wrong, or null;
+ *  - `message`: what is wrong;
+ *  - `found`: what the input has there in words, or null;
+ *  - `expected`: a list of what can come there, in words.
+ * `gqlfmt --message-format json` writes the same members, and `path`. */
+static inline graphql_proved_result graphql_proved_check(const uint8_t *text, size_t length, size_t max_errors,
+    uint8_t *out, size_t capacity) {
+    uint8_t none = 0;
+    return graphql_proved_check_nonnull(length > 0 ? text : &none, length, max_errors, capacity > 0 ? out : &none,
+        capacity);
+}
+
+/* Formats a query document for machines: without its comments, with `indent` spaces for each level. `multiline`, which
+ * is 0 or 1, writes each argument, list item and object field on its own line. With a capacity of 0 it returns the
+ * length of the output. */
+static inline graphql_proved_result graphql_proved_normalize_query(const uint8_t *text, size_t length, uint32_t indent,
     bool multiline, uint8_t *out, size_t capacity) {
     uint8_t none = 0;
-    return graphql_proved_format_schema_nonnull(length > 0 ? text : &none, length, indent, multiline,
+    return graphql_proved_normalize_query_nonnull(length > 0 ? text : &none, length, indent, multiline,
+        capacity > 0 ? out : &none, capacity);
+}
+
+/* Formats a schema document for machines, in the same way. */
+static inline graphql_proved_result graphql_proved_normalize_schema(const uint8_t *text, size_t length, uint32_t indent,
+    bool multiline, uint8_t *out, size_t capacity) {
+    uint8_t none = 0;
+    return graphql_proved_normalize_schema_nonnull(length > 0 ? text : &none, length, indent, multiline,
         capacity > 0 ? out : &none, capacity);
 }
 

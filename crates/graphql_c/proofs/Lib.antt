@@ -1,7 +1,11 @@
+pub mod FromSources
 pub mod Fronts
+pub mod Reports
 pub mod Rest
 pub mod Results
 pub mod Shortest
+pub use FromSources.*
+pub use Reports.*
 pub use Rest.*
 pub use Results.*
 pub use Shortest.*

@@ -1,5 +1,5 @@
 -- What a result says of outputs and failures.
-use Rattle.std.proofs.Common.{◌≡◌, ◌≤◌, ◌⊎◌, ◌↔◌, ◌∙◌, ℕ, List, length, Option, None, Result, Ok, Err, MatchResult, IfOk, IsErrAnd, String, string_bytes}
+use Rattle.std.proofs.Common.{◌≡◌, ◌≤◌, ◌⊎◌, ◌↔◌, ◌∙◌, ℕ, List, length, Option, Result, Ok, Err, MatchResult, IfOk, IsErrAnd, String, string_bytes}
 use Rattle.std.proofs.Common.{IsUtf8, inl, inr, refl, sym, ap, subst}
 use Rattle.std.specs.Global.{Global}
 use Rattle.graphql_core.specs.{Place, CauseText, IsDocumentOf, ParsesDocument, ParseFailure, Language, IsWrittenOf, HasNarrow, HasNone, IsWide, max_length}
@@ -10,15 +10,15 @@ use Rattle.graphql_core.specs.declared.format.error.FormatError.{FormatError}
 use Rattle.graphql_core.specs.declared.format.error.FormatError.TheVariants.{TooWide, OutOfMemory}
 use Rattle.graphql_c.specs.declared.call_result.CallResult.{CallResult}
 use Rattle.graphql_c.specs.declared.failure.Failure.{Failure}
-use Rattle.graphql_c.specs.{status_of, layout_status, line_of, column_of, HasNumbers, Explains, rejected, too_wide, not_utf8, ran_out, Fails, IsResultOf, Writes}
-use Rattle.graphql_c.specs.{written, too_short, Finds, done, failed, Returns, IsAllowed, for_offset}
+use Rattle.graphql_c.specs.{status_of, layout_status, Numbers, numbers_at, parse_numbers, alone, numbers_of, HasNumbers, Explains, rejected, too_wide, not_utf8, ran_out}
+use Rattle.graphql_c.specs.{Fails, FailsBy, IsResultOf, Writes, written, too_short, Finds, done, failed, ReturnsBy, IsAllowed, for_offset}
 use Rattle.graphql_core.proofs.{none_parsed, not_long, not_wide}
 
 -- ---- failures
 
-module _ {R S : ParseFailure → Type 0} {V W : Type 0} {text : List ℕ} (failure_is : (e : ParseFailure) → R e → S e) (width : V → W) where
+module _ {E : Type 0} {numbers : E → Numbers} {R S : E → Type 0} {V W : Type 0} {text : List ℕ} (failure_is : (e : E) → R e → S e) (width : V → W) where
   -- a failure that is explained is also explained by weaker reasons
-  explained : {s l c : ℕ} → Explains R V text s l c → Explains S W text s l c
+  explained : {n : Numbers} → Explains numbers R V text n → Explains numbers S W text n
   explained (rejected e utf8 h) = rejected e utf8 (failure_is e h)
   explained (too_wide h) = too_wide (width h)
   explained (not_utf8 h) = not_utf8 h
@@ -30,28 +30,35 @@ pub same_failure : {T : Type 0} (r : Result T Failure) (P : T → Type 0) (Q : F
 same_failure (Ok v) P Q f h up = absurd up
 same_failure (Err y) P Q f h up = subst Q (sym up) h
 
-pub halts : {T : Type 0} {R : ParseFailure → Type 0} {text : List ℕ} (r : Result T Failure) (P : T → Type 0) (S : ParseFailure → Type 0) (W : Type 0) (f : Failure)
-    → ((e : ParseFailure) → R e → S e) → Explains R ⊥ text f.status f.line f.column → IsErrAnd r (λ y. y ≡ f) → MatchResult r P (Fails S W text)
-halts {text = text} r P S W f failure_is h up = same_failure r P (Fails S W text) f (explained failure_is (λ never. absurd never) h) up
+pub halts : {T E : Type 0} {numbers : E → Numbers} {R : E → Type 0} {text : List ℕ} (r : Result T Failure) (P : T → Type 0) (S : E → Type 0) (W : Type 0) (f : Failure)
+    → ((e : E) → R e → S e) → Explains numbers R ⊥ text (numbers_of f) → IsErrAnd r (λ y. y ≡ f) → MatchResult r P (FailsBy numbers S W text)
+halts {numbers = numbers} {text = text} r P S W f failure_is h up =
+    same_failure r P (FailsBy numbers S W text) f (explained failure_is (λ never. absurd never) h) up
 
-module _ {R : ParseFailure → Type 0} {W : Type 0} {text : List ℕ} where
+module _ {E : Type 0} {numbers : E → Numbers} {R : E → Type 0} {W : Type 0} {text : List ℕ} where
   -- equal numbers are explained alike
-  pub explains_as : {s t l m c d : ℕ} → (s ≡ t) × (l ≡ m) × (c ≡ d) → Explains R W text t m d → Explains R W text s l c
-  explains_as {t = t} {l = l} {m = m} {c = c} (p, q, r) h =
-      subst (λ x. Explains R W text x l c) (sym p) (subst (λ x. Explains R W text t x c) (sym q) (subst (λ x. Explains R W text t m x) (sym r) h))
+  pub explains_as : {m n : Numbers} → m ≡ n → Explains numbers R W text n → Explains numbers R W text m
+  explains_as p h = subst (Explains numbers R W text) (sym p) h
 
-  -- an error with its cause and its position
-  pub rejected_at : {s l n : ℕ} {c : CauseText} {p : Option Place} (e : ParseFailure) → IsUtf8 text → R e → c ≡ e.cause → p ≡ e.place
-      → (s ≡ status_of c) × (l ≡ line_of p) × (n ≡ column_of p) → Explains R W text s l n
-  rejected_at e utf8 h cause place (p, q, r) =
-      explains_as (p ∙ ap status_of cause, q ∙ ap line_of place, r ∙ ap column_of place) (rejected e utf8 h)
+  -- an input that is not UTF-8 has no other errors
+  pub explains_bytes : {n : Numbers} → Explains parse_numbers (λ e. ⊥) ⊥ text n → Explains numbers R W text n
+  explains_bytes (rejected e utf8 h) = absurd h
+  explains_bytes (too_wide h) = absurd h
+  explains_bytes (not_utf8 h) = not_utf8 h
+  explains_bytes ran_out = ran_out
+
+-- an error with its cause and its position
+pub rejected_at : {R : ParseFailure → Type 0} {W : Type 0} {text : List ℕ} {n : Numbers} {c : CauseText} {p : Option Place} (e : ParseFailure) → IsUtf8 text → R e
+    → c ≡ e.cause → p ≡ e.place → n ≡ numbers_at (status_of c) p → Explains parse_numbers R W text n
+rejected_at {p = p} e utf8 h cause place is =
+    explains_as (is ∙ ap (λ c. numbers_at (status_of c) p) cause ∙ ap (λ p. numbers_at (status_of e.cause) p) place) (rejected e utf8 h)
 
 -- an error that is out of memory has its status, and no position
-pub out_of_memory_numbers : {s l n : ℕ} {c : CauseText} {p : Option Place} (e : ParseFailure) → e ≡ no_memory → c ≡ e.cause → p ≡ e.place
-    → (s ≡ status_of c) × (l ≡ line_of p) × (n ≡ column_of p) → (s ≡ status_of out_of_memory) × (l ≡ 0) × (n ≡ 0)
-out_of_memory_numbers e none cause place (p, q, r) =
-    let no_place = place ∙ ap (λ (x : ParseFailure). x.place) none in
-    (p ∙ ap status_of (cause ∙ ap (λ (x : ParseFailure). x.cause) none), q ∙ ap line_of no_place, r ∙ ap column_of no_place)
+pub out_of_memory_numbers : {n : Numbers} {c : CauseText} {p : Option Place} (e : ParseFailure) → e ≡ no_memory → c ≡ e.cause → p ≡ e.place
+    → n ≡ numbers_at (status_of c) p → n ≡ alone (status_of out_of_memory)
+out_of_memory_numbers {p = p} e none cause place is =
+    is ∙ ap (λ c. numbers_at (status_of c) p) (cause ∙ ap (λ (x : ParseFailure). x.cause) none)
+    ∙ ap (λ p. numbers_at (status_of out_of_memory) p) (place ∙ ap (λ (x : ParseFailure). x.place) none)
 
 -- only `OutOfMemory` is out of memory
 pub cause_is_out_of_memory : (c : Cause) → cause_text c ≡ out_of_memory → c ≡ cause.OutOfMemory
@@ -70,11 +77,11 @@ cause_is_out_of_memory cause.TextTooLong e = absurd cc
 cause_is_out_of_memory cause.OutOfMemory e = refl
 
 -- an input that parses to no document
-pub no_document : {D V W : Type 0} {l : Language D} {view : V → D} {text bytes : List ℕ} {e : ParseFailure} {s m n : ℕ} {c : CauseText} {p : Option Place}
-    → ParsesDocument l view text (Err e) → (text ≡ bytes) × IsUtf8 bytes → c ≡ e.cause → p ≡ e.place → (s ≡ status_of c) × (m ≡ line_of p) × (n ≡ column_of p)
-    → Explains (HasNone (IsDocumentOf l) l bytes) W bytes s m n
-no_document {l = l} {e = e} parses (same, utf8) cause place numbers =
-    rejected_at e utf8 (subst (λ t. HasNone (IsDocumentOf l) l t e) same (none_parsed parses)) cause place numbers
+pub no_document : {D V W : Type 0} {l : Language D} {view : V → D} {text bytes : List ℕ} {e : ParseFailure} {n : Numbers} {c : CauseText} {p : Option Place}
+    → ParsesDocument l view text (Err e) → (text ≡ bytes) × IsUtf8 bytes → c ≡ e.cause → p ≡ e.place → n ≡ numbers_at (status_of c) p
+    → Explains parse_numbers (HasNone (IsDocumentOf l) l bytes) W bytes n
+no_document {l = l} {e = e} parses (same, utf8) cause place is =
+    rejected_at e utf8 (subst (λ t. HasNone (IsDocumentOf l) l t e) same (none_parsed parses)) cause place is
 
 -- an input that parses to a document
 pub some_document : {D V : Type 0} {l : Language D} {view : V → D} {text bytes : List ℕ} {v : V} → ParsesDocument l view text (Ok v)
@@ -88,7 +95,7 @@ some_document {l = l} {view = view} {text = text} {v = v} parses (same, utf8) = 
 pub formatted : {D : Type 0} (l : Language D) (text : List ℕ) (d : D) (layout_of : D → List ℕ) (IsTooWide : D → Type 0)
     (made : Result (String Global) FormatError) (r : Result (String Global) Failure) → IsAllowed text × IsDocumentOf l text d
     → IfOk made (λ s. string_bytes s ≡ layout_of d) → (made ≡ Err TooWide) ↔ IsTooWide d
-    → MatchResult made (λ s. r ≡ Ok s) (λ e. IsErrAnd r (HasNumbers (layout_status e) None))
+    → MatchResult made (λ s. r ≡ Ok s) (λ e. IsErrAnd r (HasNumbers (alone (layout_status e))))
     → MatchResult r (λ s. IsAllowed text × IsWrittenOf (HasNarrow (IsDocumentOf l) IsTooWide) layout_of text (string_bytes s))
     (Fails (HasNone (IsDocumentOf l) l text) (IsAllowed text × IsWide (IsDocumentOf l) IsTooWide text) text)
 formatted l text d layout_of IsTooWide (Ok s) r (allowed, has) is wide same = rw same (allowed, (d, (has, not_wide (Ok s) wide.1), is))
@@ -99,7 +106,7 @@ formatted l text d layout_of IsTooWide (Err OutOfMemory) (Err f) has is wide num
 -- the JSON of the document, or the failure to write it
 pub written_as_json : {D A : Type 0} (l : Language D) (text : List ℕ) (d : D) (write : D → List ℕ) (made : Result (String Global) A)
     (r : Result (String Global) Failure) → IsAllowed text × IsDocumentOf l text d → IfOk made (λ s. string_bytes s ≡ write d)
-    → MatchResult made (λ s. r ≡ Ok s) (λ e. IsErrAnd r (HasNumbers (status_of out_of_memory) None))
+    → MatchResult made (λ s. r ≡ Ok s) (λ e. IsErrAnd r (HasNumbers (alone (status_of out_of_memory))))
     → MatchResult r (λ s. IsAllowed text × IsWrittenOf (IsDocumentOf l) write text (string_bytes s)) (Fails (HasNone (IsDocumentOf l) l text) ⊥ text)
 written_as_json l text d write (Ok s) r (allowed, has) is same = rw same (allowed, (d, has, is))
 written_as_json l text d write (Err e) (Ok s) has is numbers = absurd numbers
@@ -117,27 +124,29 @@ module _ {old new : List ℕ} {r : CallResult} where
 
 -- ---- results of calls
 
-module _ {R : ParseFailure → Type 0} {W : Type 0} {text old new : List ℕ} where
-  failed_so : {Done : List ℕ → List ℕ → CallResult → Type 0} (f : Failure) (r : CallResult) → Fails R W text f → IsResultOf f old new r
-      → Returns Done R W text old new r
-  failed_so f r why (is, message) = rw is (failed (string_bytes f.message) why refl message)
+module _ {E : Type 0} {numbers : E → Numbers} {R : E → Type 0} {W : Type 0} {text old new : List ℕ} where
+  failed_so : {Done : List ℕ → List ℕ → CallResult → Type 0} (f : Failure) (r : CallResult) → FailsBy numbers R W text f → IsResultOf f old new r
+      → ReturnsBy numbers Done R W text old new r
+  failed_so f r why (is, message) = failed (string_bytes f.message) (numbers_of f) why is message
 
   module _ {r : CallResult} where
     -- the result for an output, or for a failure
-    pub returned : {Makes : List ℕ → Type 0} (made : Result (String Global) Failure) → MatchResult made (λ s. Makes (string_bytes s)) (Fails R W text)
-        → MatchResult made (λ s. Writes (λ t. t ≡ string_bytes s) old new r) (λ f. IsResultOf f old new r) → Returns (Writes Makes) R W text old new r
+    pub returned : {Makes : List ℕ → Type 0} (made : Result (String Global) Failure)
+        → MatchResult made (λ s. Makes (string_bytes s)) (FailsBy numbers R W text)
+        → MatchResult made (λ s. Writes (λ t. t ≡ string_bytes s) old new r) (λ f. IsResultOf f old new r)
+        → ReturnsBy numbers (Writes Makes) R W text old new r
     returned (Ok s) is result = done (writes is result)
     returned (Err f) why result = failed_so f r why result
 
     -- the same for an offset
-    pub located : {IsAt : ℕ → Type 0} (at : Result ℕ Failure) → MatchResult at IsAt (Fails R W text)
-        → MatchResult at (λ n. Finds (λ k. k ≡ n) old new r) (λ f. IsResultOf f old new r) → Returns (Finds IsAt) R W text old new r
+    pub located : {IsAt : ℕ → Type 0} (at : Result ℕ Failure) → MatchResult at IsAt (FailsBy numbers R W text)
+        → MatchResult at (λ n. Finds (λ k. k ≡ n) old new r) (λ f. IsResultOf f old new r) → ReturnsBy numbers (Finds IsAt) R W text old new r
     located (Ok n) is result = done (finds is result)
     located (Err f) why result = failed_so f r why result
 
 -- an offset, or out of memory
 pub found_or_out : (old new : List ℕ) {r : CallResult} {n : ℕ} (at : Result ℕ Failure)
-    → MatchResult at (λ k. k ≡ n) (HasNumbers (status_of out_of_memory) None)
+    → MatchResult at (λ k. k ≡ n) (HasNumbers (alone (status_of out_of_memory)))
     → MatchResult at (λ k. Finds (λ m. m ≡ k) old new r) (λ f. IsResultOf f old new r) → (r ≡ for_offset n) ⊎ (r.status ≡ status_of out_of_memory)
 found_or_out old new (Ok k) is (m, same, kept, says) = inl (says ∙ ap for_offset (same ∙ is))
-found_or_out old new (Err f) (status, line, column) (is, message) = inr (ap (λ (c : CallResult). c.status) is ∙ status)
+found_or_out old new (Err f) has (is, message) = inr (ap (λ (c : CallResult). c.status) is ∙ ap (λ (n : Numbers). n.status) has)

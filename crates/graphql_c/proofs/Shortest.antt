@@ -1,5 +1,5 @@
 -- A minified output is at most twice as long as its input, so a buffer of this length is never too short.
-use Rattle.std.proofs.Common.{◌≡◌, ◌≢◌, ◌*◌, ◌<◌, ◌≤◌, ℕ, Bool, true, false, List, [], ◌∷◌, ◌++◌, length, ap, arith, length-append}
+use Rattle.std.proofs.Common.{◌≡◌, ◌≢◌, ◌*◌, ◌<◌, ◌≤◌, ℕ, Bool, true, false, List, [], ◌∷◌, ◌++◌, length, ap, arith, length-append, sym, ◌∙◌}
 use Rattle.graphql_core.specs.{items_of, Token, Meaning, Ignored, TokenOf, Piece, IsTokenizedInto, IsLexicalElement, Where, Item, past_ignored, past_token, is_too_deep}
 use Rattle.graphql_core.specs.{token_then, piece_then, split, LexicalError, item_at, TokenContent, token_of, kind_number, IsMinified, start, CauseText}
 use Rattle.graphql_core.specs.{no_token, too_deep, unexpected_token, unexpected_end, int_out_of_range, malformed_float, bad_escape, unknown_location}
@@ -9,7 +9,7 @@ use Rattle.graphql_core.specs.declared.tokenizer.token.Kind.{Kind}
 use Rattle.graphql_core.specs.declared.tokenizer.piece.Nesting.{Nesting}
 use Rattle.graphql_core.proofs.sources.TokenPlaces.{part}
 use Rattle.graphql_c.specs.declared.call_result.CallResult.{CallResult}
-use Rattle.graphql_c.specs.{status_of, status_too_short, Explains, rejected, too_wide, not_utf8, ran_out, Writes, written, too_short, Returns, done, failed}
+use Rattle.graphql_c.specs.{status_of, status_too_short, Numbers, parse_numbers, Explains, rejected, too_wide, not_utf8, ran_out, Writes, written, too_short, Returns, done, failed}
 use Rattle.graphql_c.specs.{IsMinifiedInput}
 
 -- ---- the length of a minified output
@@ -84,7 +84,7 @@ cause_status empty_extension e = omega (arith, e)
 cause_status text_too_long e = omega (arith, e)
 cause_status out_of_memory e = omega (arith, e)
 
-error_status : {R : ParseFailure → Type 0} {W : Type 0} {text : List ℕ} {s l c : ℕ} → Explains R W text s l c → s ≢ status_too_short
+error_status : {R : ParseFailure → Type 0} {W : Type 0} {text : List ℕ} {n : Numbers} → Explains parse_numbers R W text n → n.status ≢ status_too_short
 error_status (rejected e utf8 h) same = cause_status e.cause same
 error_status (too_wide h) same = omega (arith, same)
 error_status (not_utf8 h) same = omega (arith, same)
@@ -94,4 +94,4 @@ pub never_short : {R : ParseFailure → Type 0} {W : Type 0} {text old new : Lis
     → 2 * length text ≤ length old → r.status ≢ status_too_short
 never_short (done (written output is fits put says)) enough same = omega (arith, same, ap (λ (r : CallResult). r.status) says)
 never_short (done (too_short output is short unchanged says)) enough same = omega (arith, short, enough, minified_length _ output is.1)
-never_short (failed message why is put) enough same = error_status why same
+never_short (failed message n why is put) enough same = error_status why (sym (ap (λ (r : CallResult). r.status) is) ∙ same)

@@ -1,6 +1,9 @@
 pub mod Names
 pub mod Output
 pub mod Results
+pub mod Sources
+pub mod steps
 pub use Names.*
 pub use Output.*
 pub use Results.*
+pub use Sources.*

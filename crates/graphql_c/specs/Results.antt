@@ -51,9 +51,29 @@ abbrev pub layout_status : FormatError → ℕ
 layout_status TooWide = status_too_wide
 layout_status OutOfMemory = status_of out_of_memory
 
--- the failure has this status and the numbers of this position
-abbrev pub HasNumbers : ℕ → Option Place → Failure → Type 0
-HasNumbers status place f = (f.status ≡ status) × (f.line ≡ line_of place) × (f.column ≡ column_of place)
+-- what a result has of an error: its status, and its position and its offset, which are 0 if it has none
+pub record Numbers : Type 0 where
+  pub status : ℕ
+  pub line : ℕ
+  pub column : ℕ
+  pub offset : ℕ
+
+abbrev pub numbers_at : (status : ℕ) → Option Place → Numbers
+numbers_at status place = record { status = status; line = line_of place; column = column_of place; offset = 0 }
+
+-- the numbers of an error of a parser
+abbrev pub parse_numbers : ParseFailure → Numbers
+parse_numbers e = numbers_at (status_of e.cause) e.place
+
+-- the numbers of an error without a position
+abbrev pub alone : (status : ℕ) → Numbers
+alone status = record { status = status; line = 0; column = 0; offset = 0 }
+
+abbrev pub numbers_of : Failure → Numbers
+numbers_of f = record { status = f.status; line = f.line; column = f.column; offset = f.offset }
+
+abbrev pub HasNumbers : Numbers → Failure → Type 0
+HasNumbers n f = numbers_of f ≡ n
 
 -- ---- buffers
 
@@ -63,19 +83,22 @@ put text buffer = if nat_le (length text) (length buffer) then text ++ drop (len
 
 -- ---- results of calls
 
--- Why a call failed: an error of an input that is UTF-8, with its status and its position, or a status alone.
-pub data Explains (Rejects : ParseFailure → Type 0) (IsTooWide : Type 0) (text : List ℕ) : (status line column : ℕ)
+-- Why a call failed: an error of an input that is UTF-8, with its numbers, or a status alone.
+pub data Explains {E : Type 0} (numbers : E → Numbers) (Rejects : E → Type 0) (IsTooWide : Type 0) (text : List ℕ) : Numbers
     → Type 0 where
-  rejected : (e : ParseFailure) → IsUtf8 text → Rejects e
-      → Explains Rejects IsTooWide text (status_of e.cause) (line_of e.place) (column_of e.place)
-  too_wide : IsTooWide → Explains Rejects IsTooWide text status_too_wide 0 0
-  not_utf8 : (IsUtf8 text → ⊥) → Explains Rejects IsTooWide text status_not_utf8 0 0
+  rejected : (e : E) → IsUtf8 text → Rejects e → Explains numbers Rejects IsTooWide text (numbers e)
+  too_wide : IsTooWide → Explains numbers Rejects IsTooWide text (alone status_too_wide)
+  not_utf8 : (IsUtf8 text → ⊥) → Explains numbers Rejects IsTooWide text (alone status_not_utf8)
   -- an allocation failed
-  ran_out : Explains Rejects IsTooWide text (status_of out_of_memory) 0 0
+  ran_out : Explains numbers Rejects IsTooWide text (alone (status_of out_of_memory))
 
--- the failure is explained
+-- the failure is explained by errors with these numbers
+abbrev pub FailsBy : {E : Type 0} → (E → Numbers) → (E → Type 0) → Type 0 → List ℕ → Failure → Type 0
+FailsBy numbers Rejects IsTooWide text f = Explains numbers Rejects IsTooWide text (numbers_of f)
+
+-- the failure is explained by errors of a parser
 abbrev pub Fails : (ParseFailure → Type 0) → Type 0 → List ℕ → Failure → Type 0
-Fails Rejects IsTooWide text f = Explains Rejects IsTooWide text f.status f.line f.column
+Fails Rejects IsTooWide text f = FailsBy parse_numbers Rejects IsTooWide text f
 
 -- the result for an output of this length
 abbrev pub for_output : (status length : ℕ) → CallResult
@@ -87,15 +110,20 @@ abbrev pub for_offset : ℕ → CallResult
 for_offset n = record { status = 0; output_length = 0; message_length = 0; offset = n; line = 0; column = 0 }
 
 -- the result for an error with a message of this length
-abbrev pub for_error : (status line column length : ℕ) → CallResult
-for_error status line column n =
-    record { status = status; output_length = 0; message_length = n; offset = 0; line = line; column = column }
+abbrev pub for_error : Numbers → (length : ℕ) → CallResult
+for_error n length = record {
+  status = n.status;
+  output_length = 0;
+  message_length = length;
+  offset = n.offset;
+  line = n.line;
+  column = n.column;
+}
 
 -- the result has the numbers of the failure, and its message is written into the buffer if it fits
 abbrev pub IsResultOf : Failure → (old new : List ℕ) → CallResult → Type 0
 IsResultOf f old new r =
-    (r ≡ for_error f.status f.line f.column (length (string_bytes f.message)))
-    × (new ≡ put (string_bytes f.message) old)
+    (r ≡ for_error (numbers_of f) (length (string_bytes f.message))) × (new ≡ put (string_bytes f.message) old)
 
 -- The call made this output: it is in the buffer, or the buffer is too short and is unchanged.
 pub data Writes (Makes : List ℕ → Type 0) (old new : List ℕ) (r : CallResult) : Type 0 where
@@ -108,11 +136,16 @@ pub data Writes (Makes : List ℕ → Type 0) (old new : List ℕ) (r : CallResu
 abbrev pub Finds : (ℕ → Type 0) → (old new : List ℕ) → CallResult → Type 0
 Finds IsAt old new r = (n : ℕ) × IsAt n × (new ≡ old) × (r ≡ for_offset n)
 
--- The call succeeded, or its result has the status and the position of the error. Then some message is written into
--- the buffer if it fits; which one is not specified.
-pub data Returns (Done : List ℕ → List ℕ → CallResult → Type 0) (Rejects : ParseFailure → Type 0) (IsTooWide : Type 0)
-    (text old new : List ℕ) (r : CallResult) : Type 0 where
-  done : Done old new r → Returns Done Rejects IsTooWide text old new r
-  failed : (message : List ℕ) → Explains Rejects IsTooWide text r.status r.line r.column
-      → r ≡ for_error r.status r.line r.column (length message) → new ≡ put message old
-      → Returns Done Rejects IsTooWide text old new r
+-- The call succeeded, or its result has the numbers of the error. Then some message is written into the buffer if it
+-- fits; which one is not specified.
+pub data ReturnsBy {E : Type 0} (numbers : E → Numbers) (Done : List ℕ → List ℕ → CallResult → Type 0) (Rejects : E → Type 0)
+    (IsTooWide : Type 0) (text old new : List ℕ) (r : CallResult) : Type 0 where
+  done : Done old new r → ReturnsBy numbers Done Rejects IsTooWide text old new r
+  failed : (message : List ℕ) (n : Numbers) → Explains numbers Rejects IsTooWide text n
+      → r ≡ for_error n (length message) → new ≡ put message old
+      → ReturnsBy numbers Done Rejects IsTooWide text old new r
+
+-- the same for the errors of a parser
+abbrev pub Returns : (List ℕ → List ℕ → CallResult → Type 0) → (ParseFailure → Type 0) → Type 0
+    → (text old new : List ℕ) → CallResult → Type 0
+Returns Done Rejects IsTooWide text old new r = ReturnsBy parse_numbers Done Rejects IsTooWide text old new r

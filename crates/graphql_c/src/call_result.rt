@@ -15,11 +15,13 @@ pub struct CallResult {
     pub output_length: usize,
     /// The length of the message in bytes.
     pub message_length: usize,
-    /// The offset in bytes at which the rest begins: after the first definition and the ignored text behind it.
+    /// The offset in bytes at which the rest begins, after the first definition and the ignored text behind it; or that
+    /// of an error of a source.
     pub offset: usize,
     /// The line of the error, from 1; 0 if the error has no position.
     pub line: usize,
-    /// The column of the error in characters (a tab between tokens counts 8), from 1; 0 if the error has no position.
+    /// The column of the error in characters, from 1; 0 if the error has no position. A tab counts 1 in an error of a
+    /// source, otherwise 8 between tokens.
     pub column: usize,
 }
 
@@ -70,6 +72,7 @@ fn failed(out: &mut [u8], failure: Failure) -> CallResult
         status,
         line,
         column,
+        offset,
         message,
     } = failure;
     put(out, &message);
@@ -77,7 +80,7 @@ fn failed(out: &mut [u8], failure: Failure) -> CallResult
         status,
         output_length: 0,
         message_length: message.len(),
-        offset: 0,
+        offset,
         line,
         column,
     }

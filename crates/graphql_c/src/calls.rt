@@ -7,7 +7,7 @@ ghost use Rattle.graphql_query.specs.{queries, IsMinifyErrorOf};
 ghost use Rattle.graphql_query.specs.Tree as query;
 ghost use Rattle.graphql_schema.specs.{schemas};
 ghost use Rattle.graphql_schema.specs.Views as schema;
-ghost use Rattle.graphql_c.specs.{Fails, HasNumbers, layout_status, layout_in, status_of, IsAllowed, IsFormattedQuery};
+ghost use Rattle.graphql_c.specs.{Fails, HasNumbers, alone, layout_status, layout_in, status_of, IsAllowed, IsFormattedQuery};
 ghost use Rattle.graphql_c.specs.{IsFormattedSchema, IsQueryChecked, IsSchemaChecked, IsQueryJson, IsSchemaJson};
 ghost use Rattle.graphql_c.specs.{IsMinifiedInput, HasNoQuery, HasNoSchema, HasNoFirst, IsQueryTooWide};
 ghost use Rattle.graphql_c.specs.{IsSchemaTooWide, EndsAt, EndsWithin};
@@ -35,7 +35,7 @@ pub fn style_in(indent: u32, multiline: bool) -> Style
 }
 
 /// The bytes as a string, if they are UTF-8.
-fn text_of(alloc: Global, bytes: &[u8]) -> Result<&str, Failure>
+pub fn text_of(alloc: Global, bytes: &[u8]) -> Result<&str, Failure>
     ensures { MatchResult result (λ text. (text.now ≡ bytes.now) × IsUtf8 bytes.now) (Fails (λ e. ⊥) ⊥ bytes.now) }
 {
     match str::from_utf8(bytes) {
@@ -46,7 +46,7 @@ fn text_of(alloc: Global, bytes: &[u8]) -> Result<&str, Failure>
 
 /// The formatted document, or the failure to format it.
 fn output_of(alloc: Global, made: Result<String, FormatError>) -> Result<String, Failure>
-    ensures { MatchResult made (λ s. result ≡ Ok s) (λ e. IsErrAnd result (HasNumbers (layout_status e) None)) }
+    ensures { MatchResult made (λ s. result ≡ Ok s) (λ e. IsErrAnd result (HasNumbers (alone (layout_status e)))) }
 {
     match made {
         Ok(output) => Ok(output),
@@ -56,7 +56,7 @@ fn output_of(alloc: Global, made: Result<String, FormatError>) -> Result<String,
 
 /// The JSON of a document, or the failure to write it.
 fn json_of(alloc: Global, made: Result<String, AllocError>) -> Result<String, Failure>
-    ensures { MatchResult made (λ s. result ≡ Ok s) (λ e. IsErrAnd result (HasNumbers (status_of out_of_memory) None)) }
+    ensures { MatchResult made (λ s. result ≡ Ok s) (λ e. IsErrAnd result (HasNumbers (alone (status_of out_of_memory)))) }
 {
     match made {
         Ok(json) => Ok(json),
@@ -88,8 +88,8 @@ fn schema_of(alloc: Global, bytes: &[u8]) -> Result<SchemaDocument<'_, &str>, Fa
     }
 }
 
-/// Parses these bytes as a query document, and formats it.
-pub fn format_query(alloc: Global, bytes: &[u8], style: &Style) -> Result<String, Failure>
+/// Parses these bytes as a query document, and formats it without comments.
+pub fn normalize_query(alloc: Global, bytes: &[u8], style: &Style) -> Result<String, Failure>
     ensures { MatchResult result (λ s. IsFormattedQuery style.now bytes.now (string_bytes s))
         (Fails (HasNoQuery bytes.now) (IsQueryTooWide style.now bytes.now) bytes.now) }
 {
@@ -97,8 +97,8 @@ pub fn format_query(alloc: Global, bytes: &[u8], style: &Style) -> Result<String
     output_of(alloc, document.format(alloc, style))
 }
 
-/// Parses these bytes as a schema document, and formats it.
-pub fn format_schema(alloc: Global, bytes: &[u8], style: &Style) -> Result<String, Failure>
+/// Parses these bytes as a schema document, and formats it without comments.
+pub fn normalize_schema(alloc: Global, bytes: &[u8], style: &Style) -> Result<String, Failure>
     ensures { MatchResult result (λ s. IsFormattedSchema style.now bytes.now (string_bytes s))
         (Fails (HasNoSchema bytes.now) (IsSchemaTooWide style.now bytes.now) bytes.now) }
 {
@@ -173,7 +173,7 @@ fn valid_front(bytes: &[u8]) -> &str
 /// failed.
 fn end_within(alloc: Global, front: &str) -> Result<Option<usize>, Failure>
     ensures sound { MatchResult result (λ end. IfSome end (λ n. (more : List ℕ) → EndsAt (front.now ++ more) n))
-        (HasNumbers (status_of out_of_memory) None) }
+        (HasNumbers (alone (status_of out_of_memory))) }
     ensures complete { (n : ℕ) → length front.now ≤ max_length → EndsAt front.now n → n < length front.now
         → IfOk result (λ end. end ≡ Some n) }
 {
@@ -191,7 +191,7 @@ fn end_within(alloc: Global, front: &str) -> Result<Option<usize>, Failure>
 fn end_of(alloc: Global, text: &str) -> Result<usize, Failure>
     ensures sound { MatchResult result (EndsAt text.now) (Fails (HasNoFirst text.now) ⊥ text.now) }
     ensures complete { (n : ℕ) → length text.now ≤ max_length → EndsAt text.now n
-        → MatchResult result (λ end. end ≡ n) (HasNumbers (status_of out_of_memory) None) }
+        → MatchResult result (λ end. end ≡ n) (HasNumbers (alone (status_of out_of_memory))) }
 {
     match consume_definition::<&str>(alloc, text) {
         Ok(first) => Ok(text.len() - first.1.len()),
@@ -204,7 +204,7 @@ fn end_of(alloc: Global, text: &str) -> Result<usize, Failure>
 pub fn first_end(alloc: Global, bytes: &[u8]) -> Result<usize, Failure>
     ensures sound { MatchResult result (EndsAt bytes.now) (Fails (HasNoFirst bytes.now) ⊥ bytes.now) }
     ensures shown { (n : ℕ) → length bytes.now ≤ max_length → EndsWithin bytes.now n
-        → MatchResult result (λ end. end ≡ n) (HasNumbers (status_of out_of_memory) None) }
+        → MatchResult result (λ end. end ≡ n) (HasNumbers (alone (status_of out_of_memory))) }
 {
     let mut length = FIRST_LENGTH;
     'fronts: while length < bytes.len() {

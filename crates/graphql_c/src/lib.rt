@@ -8,6 +8,7 @@
 ghost use Rattle.std.specs.Prelude.{◌≡◌, ◌≢◌, ◌⊎◌, ◌*◌, ◌≤◌, ℕ, length};
 ghost use Rattle.graphql_core.specs.{max_length, out_of_memory};
 ghost use Rattle.graphql_query.specs.{IsMinifyErrorOf};
+ghost use Rattle.graphql_c.specs.{ReturnsBy, source_numbers, IsFormattedSource, IsRejectedSource, HasErrorList};
 ghost use Rattle.graphql_c.specs.{Returns, Writes, Finds, layout_in, IsFormattedQuery, IsFormattedSchema};
 ghost use Rattle.graphql_c.specs.{IsQueryChecked};
 ghost use Rattle.graphql_c.specs.{IsSchemaChecked, IsQueryJson, IsSchemaJson, IsMinifiedInput, HasNoQuery, HasNoSchema};
@@ -16,8 +17,10 @@ ghost use Rattle.graphql_c.specs.{status_of, status_name, status_too_short, with
 
 mod call_result;
 mod calls;
+mod errors;
 mod failure;
 mod names;
+mod sources;
 mod status;
 
 pub use call_result::CallResult;
@@ -25,10 +28,42 @@ use call_result::{of_offset, of_output};
 pub use names::{StatusName, Version};
 use std::alloc::Global;
 
-/// Formats a query document (October 2021, section 2.2) into `out`, with `indent` spaces for each level. If `multiline`
+/// Formats a source into `out`, and keeps its comments, with `indent` spaces for each level. The source is a document of
+/// the specification of September 2025 with at most 1,000 open brackets, or a document that `check_query` or
+/// `check_schema` accepts, or has no token. Lines have at most `width` columns where they can be broken.
+#[unsafe(no_mangle)]
+pub extern "C" fn graphql_proved_format_source_nonnull(
+    alloc: Global,
+    text: &[u8],
+    indent: u32,
+    width: u32,
+    out: &mut [u8],
+) -> CallResult
+    ensures { ReturnsBy source_numbers (Writes (IsFormattedSource text.now)) (IsRejectedSource text.now) ⊥ text.now
+        out.old out.new result }
+{
+    let options = sources::options_of(indent, width);
+    of_output(out, sources::format_source(alloc, text, &options))
+}
+
+/// Writes the errors of a source into `out` as a JSON array, at most `max_errors`, or all of them for 0. It is empty for
+/// a source that `format_source` formats.
+#[unsafe(no_mangle)]
+pub extern "C" fn graphql_proved_check_nonnull(
+    alloc: Global,
+    text: &[u8],
+    max_errors: usize,
+    out: &mut [u8],
+) -> CallResult
+    ensures { Returns (Writes (HasErrorList max_errors text.now)) (λ e. ⊥) ⊥ text.now out.old out.new result }
+{
+    of_output(out, sources::checked(alloc, text, max_errors))
+}
+
+/// Formats a query document (October 2021, section 2.2) into `out`, without its comments, with `indent` spaces for each level. If `multiline`
 /// is true, each argument, list item and object field has a separate line.
 #[unsafe(no_mangle)]
-pub extern "C" fn graphql_proved_format_query_nonnull(
+pub extern "C" fn graphql_proved_normalize_query_nonnull(
     alloc: Global,
     text: &[u8],
     indent: u32,
@@ -39,13 +74,13 @@ pub extern "C" fn graphql_proved_format_query_nonnull(
         (IsQueryTooWide (layout_in indent multiline) text.now) text.now out.old out.new result }
 {
     let style = calls::style_in(indent, multiline);
-    of_output(out, calls::format_query(alloc, text, &style))
+    of_output(out, calls::normalize_query(alloc, text, &style))
 }
 
-/// Formats a schema document (section 3) into `out`, with `indent` spaces for each level. If `multiline` is true, each
+/// Formats a schema document (section 3) into `out`, without its comments, with `indent` spaces for each level. If `multiline` is true, each
 /// argument, list item and object field has a separate line.
 #[unsafe(no_mangle)]
-pub extern "C" fn graphql_proved_format_schema_nonnull(
+pub extern "C" fn graphql_proved_normalize_schema_nonnull(
     alloc: Global,
     text: &[u8],
     indent: u32,
@@ -56,7 +91,7 @@ pub extern "C" fn graphql_proved_format_schema_nonnull(
         (IsSchemaTooWide (layout_in indent multiline) text.now) text.now out.old out.new result }
 {
     let style = calls::style_in(indent, multiline);
-    of_output(out, calls::format_schema(alloc, text, &style))
+    of_output(out, calls::normalize_schema(alloc, text, &style))
 }
 
 /// Writes the tokens of the input into `out`, with a space only between two that are not punctuators, and between a

@@ -1,0 +1,2 @@
+pub mod Errors
+unfoldable pub use Errors.*
