@@ -1,10 +1,10 @@
-"""A filter: reads a query document from standard input, and writes it formatted to standard output."""
+"""A filter: reads a document from standard input, and writes it formatted to standard output."""
 import sys
 
-from graphql_proved import DocumentError, format_query
+import graphql_proved
 
 try:
-    output = format_query(sys.stdin.buffer.read())
-except DocumentError as error:
+    output = graphql_proved.format(sys.stdin.buffer.read())
+except graphql_proved.DocumentError as error:
     sys.exit(str(error))
 sys.stdout.buffer.write(output)

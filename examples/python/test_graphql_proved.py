@@ -8,27 +8,30 @@ import sys
 import threading
 import unittest
 
-try:
-    import graphql
-except ImportError:
-    graphql = None
-
 import graphql_proved
-from graphql_proved import DocumentError, Status
+from graphql_proved import Diagnostic, DocumentError, Status
 
-FORMATS = (graphql_proved.format_query, graphql_proved.format_schema)
+NORMALIZES = (graphql_proved.normalize_query, graphql_proved.normalize_schema)
+FORMATS = (graphql_proved.format, *NORMALIZES)
 CHECKS = (graphql_proved.check_query, graphql_proved.check_schema)
 JSON = (graphql_proved.query_to_json, graphql_proved.schema_to_json)
-CALLS = (*FORMATS, *CHECKS, *JSON, graphql_proved.minify, graphql_proved.first_definition)
+CALLS = (*FORMATS, *CHECKS, *JSON, graphql_proved.check, graphql_proved.parse, graphql_proved.minify,
+         graphql_proved.first_definition)
 
 
 class Outputs(unittest.TestCase):
-    def test_formats(self):
-        self.assertEqual(graphql_proved.format_query("{ a(b: 1) { c } }"), "{\n  a(b: 1) {\n    c\n  }\n}\n")
+    def test_format(self):
+        self.assertEqual(graphql_proved.format("{ a { b } } # c"), "{\n  a {\n    b\n  }\n} # c\n")
+        self.assertEqual(graphql_proved.format("{ a(b: 1) }", indent=4, width=8), "{\n    a(\n        b: 1\n    )\n}\n")
+        self.assertEqual(graphql_proved.format("{ a } scalar S"), "{\n  a\n}\n\nscalar S\n")
+        self.assertEqual(graphql_proved.format("#c"), "#c\n")
+
+    def test_normalizes(self):
+        self.assertEqual(graphql_proved.normalize_query("{ a(b: 1) { c #\n} }"), "{\n  a(b: 1) {\n    c\n  }\n}\n")
         lines = "{\n    a(\n        b: 1\n    )\n}\n"
-        self.assertEqual(graphql_proved.format_query("{ a(b: 1) }", indent=4, multiline=True), lines)
+        self.assertEqual(graphql_proved.normalize_query("{ a(b: 1) }", indent=4, multiline=True), lines)
         schema = '"d"\nenum E {\n  "v" A @x\n  B\n}\n'
-        self.assertEqual(graphql_proved.format_schema('"""d""" enum E { "v" A @x B }'), schema)
+        self.assertEqual(graphql_proved.normalize_schema('"""d""" enum E { "v" A @x B }'), schema)
 
     def test_minify(self):
         self.assertEqual(graphql_proved.minify("query { a , b }"), "query{a b}")
@@ -43,13 +46,15 @@ class Outputs(unittest.TestCase):
         self.assertIsNone(graphql_proved.check_schema(b"scalar S"))
 
     def test_output_has_the_type_of_its_source(self):
-        self.assertEqual(graphql_proved.format_query('{ a(b: "é") }'.encode()), '{\n  a(b: "é")\n}\n'.encode())
-        self.assertEqual(graphql_proved.format_schema(b"scalar S"), b"scalar S\n")
+        for call in graphql_proved.format, graphql_proved.normalize_query:
+            self.assertEqual(call('{ a(b: "é") }'.encode()), '{\n  a(b: "é")\n}\n'.encode())
+        self.assertEqual(graphql_proved.normalize_schema(b"scalar S"), b"scalar S\n")
         self.assertEqual(graphql_proved.minify(b"{ a }"), b"{a}")
 
     def test_output_longer_than_the_first_buffer(self):
-        wide = graphql_proved.format_query("{ a { b } }", indent=5000)
-        self.assertEqual(wide, "{\n" + " " * 5000 + "a {\n" + " " * 10000 + "b\n" + " " * 5000 + "}\n}\n")
+        wide = "{\n" + " " * 5000 + "a {\n" + " " * 10000 + "b\n" + " " * 5000 + "}\n}\n"
+        for call in graphql_proved.format, graphql_proved.normalize_query:
+            self.assertEqual(call("{ a { b } }", indent=5000), wide)
 
     def test_zero_bytes_and_empty_sources(self):
         self.assertEqual(graphql_proved.minify(""), "")
@@ -83,35 +88,13 @@ extend scalar S @z
 '''
 
 
-def plain(name):
-    """A name as graphql-core and graphql-js both have it: `kind_of` and `kindOf` are the same."""
-    return name.replace("_", "").lower()
-
-
-def nodes_of_json(value):
-    """A node as its kind and its members that are nodes, or a list of nodes."""
-    if isinstance(value, list):
-        return [nodes_of_json(it) for it in value]
-    members = {name: it for name, it in value.items() if name != "loc" and isinstance(it, (dict, list)) and it}
-    return plain(value["kind"]), {plain(name): nodes_of_json(it) for name, it in members.items()}
-
-
-def nodes_of_core(value):
-    """The same for a node of graphql-core."""
-    if isinstance(value, (list, tuple)):
-        return [nodes_of_core(it) for it in value]
-    members = {name: getattr(value, name) for name in value.keys}
-    members = {name: it for name, it in members.items() if isinstance(it, (graphql.Node, list, tuple)) and it}
-    return plain(value.kind), {plain(name): nodes_of_core(it) for name, it in members.items()}
-
-
 class Json(unittest.TestCase):
     def test_values(self):
         document = json.loads(graphql_proved.query_to_json('{ a(b: "\\"é\\n") }'))
         [operation] = document["definitions"]
         self.assertEqual((operation["kind"], operation["operation"]), ("OperationDefinition", "query"))
         [field] = operation["selectionSet"]["selections"]
-        self.assertEqual((field["name"]["value"], field["loc"]), ("a", {"line": 1, "column": 3}))
+        self.assertEqual((field["name"]["value"], field["position"]), ("a", {"line": 1, "column": 3}))
         self.assertEqual(field["arguments"][0]["value"], {"kind": "StringValue", "value": '"é\n'})
 
     def test_output_has_the_type_of_its_source(self):
@@ -124,10 +107,10 @@ class Json(unittest.TestCase):
         document = json.loads(graphql_proved.query_to_json("{a}" * 1000))
         self.assertEqual(len(document["definitions"]), 1000)
 
-    @unittest.skipIf(graphql is None, "Python has no graphql-core")
-    def test_nodes_are_those_of_graphql_core(self):
+    def test_parse(self):
         for call, source in zip(JSON, (QUERY, SCHEMA)):
-            self.assertEqual(nodes_of_json(json.loads(call(source))), nodes_of_core(graphql.parse(source)))
+            for given in source, source.encode():
+                self.assertEqual(graphql_proved.parse(given), json.loads(call(source)))
 
 
 class Errors(unittest.TestCase):
@@ -138,23 +121,59 @@ class Errors(unittest.TestCase):
 
     def test_status_and_position(self):
         for call, source, status, line, column in [
-            (graphql_proved.format_query, "", Status.UNEXPECTED_END, 1, 1),
+            (graphql_proved.normalize_query, "", Status.UNEXPECTED_END, 1, 1),
             (graphql_proved.check_query, "{ a ; }", Status.BAD_TOKEN, 1, 5),
             (graphql_proved.minify, "{ a ; }", Status.BAD_TOKEN, 1, 5),
             (graphql_proved.check_schema, "\nextend type A", Status.EMPTY_EXTENSION, 2, 8),
             (graphql_proved.first_definition, "where", Status.UNEXPECTED_TOKEN, 1, 1),
             (graphql_proved.query_to_json, "{ a ; }", Status.BAD_TOKEN, 1, 5),
             (graphql_proved.schema_to_json, "\nextend type A", Status.EMPTY_EXTENSION, 2, 8),
-            (graphql_proved.format_query, b"{ \xff }", Status.NOT_UTF8, None, None),
-            (graphql_proved.format_query, "{ a # \ud800\n}", Status.NOT_UTF8, None, None),
+            (graphql_proved.normalize_query, b"{ \xff }", Status.NOT_UTF8, None, None),
+            (graphql_proved.normalize_query, "{ a # \ud800\n}", Status.NOT_UTF8, None, None),
         ]:
             with self.subTest(source=source):
                 error = self.error(call, source)
                 self.assertIsInstance(error.status, Status)
                 self.assertEqual((error.status, error.line, error.column), (status, line, column))
 
+    def test_columns_and_offsets(self):
+        """A tab is one column, and offsets have the unit of the source."""
+        source = '{\r\n\ta(b: "\té") { # 日\r c\n\ufeff(d:\t-99999999999999999999, e: """\n\\""" é\n""") } }'
+        for call in graphql_proved.normalize_query, graphql_proved.check_query, graphql_proved.parse:
+            for given in source, source.encode():
+                error = self.error(call, given)
+                self.assertEqual((error.status, error.line, error.column), (Status.INT_OUT_OF_RANGE, 4, 6))
+                wrong = given[error.offset:error.end_offset]
+                self.assertEqual(wrong, "-99999999999999999999" if given is source else b"-99999999999999999999")
+                self.assertIn(" at 4:6\n", error.message)
+        for source, offset, end in [('{ "é" }', 2, 5), ("{ é }", 2, 3), ("{ a # é", 7, 7), ("{ aß }", 3, 4), ('{ a(b: """é\n', 7, 8)]:
+            with self.subTest(source=source):
+                for call in graphql_proved.format, graphql_proved.check_query, graphql_proved.parse:
+                    error = self.error(call, source)
+                    self.assertEqual((error.offset, error.end_offset), (offset, end))
+
+    def test_errors_of_parse(self):
+        """The error is that by the specification; else that of the language which goes further."""
+        self.assertEqual(str(self.error(graphql_proved.parse, "type A { b }")), "1:12: expected `(` or `:`, found `}`")
+        self.assertEqual(self.error(graphql_proved.parse, "{ a } scalar S").offset, 6)
+        self.assertEqual(self.error(graphql_proved.parse, "scalar S { a }").offset, 9)
+        self.assertEqual(self.error(graphql_proved.parse, b"{ \xff }").status, Status.NOT_UTF8)
+
+    def test_check(self):
+        source = "# é\ntype A { a }\n\ntype B { b: 1 }\nquery { c(d: "
+        for given in source, source.encode():
+            first, second, third = graphql_proved.check(given)
+            self.assertEqual((first.line, first.column, first.expected[-1]), (2, 12, "`:`"))
+            self.assertEqual(str(second), "4:13: expected a type, found the number `1`")
+            self.assertEqual(given[second.offset:second.end_offset], given[-17:-16])
+            self.assertEqual((third.offset, third.end_offset), (len(given), len(given)))
+        self.assertEqual(graphql_proved.check("#"), [])
+        self.assertIsInstance(hash(first), int)
+        self.assertEqual(self.error(graphql_proved.check, b"{ \xff }").status, Status.NOT_UTF8)
+        self.assertEqual(len(graphql_proved.check("type A { 1 }\n" * 1000)), 1000)
+
     def test_too_wide(self):
-        error = self.error(graphql_proved.format_query, "{ a { b } }", indent=2**32 - 1)
+        error = self.error(graphql_proved.normalize_query, "{ a { b } }", indent=2**32 - 1)
         self.assertEqual((error.status, error.line, error.column), (Status.TOO_WIDE, None, None))
         self.assertEqual(error.message, "format error: indentation too wide")
 
@@ -163,7 +182,9 @@ class Errors(unittest.TestCase):
         self.assertEqual(error.message, "query parse error: Parse error at 1:12\nnumber too large\n")
         self.assertEqual(str(error), "query parse error: Parse error at 1:12\nnumber too large")
         error = self.error(graphql_proved.minify, "{ a ; }")
-        self.assertEqual(str(error), "query minify error: Unexpected unexpected character ';' at 1:5")
+        self.assertEqual(str(error), "1:5: query minify error: Unexpected unexpected character ';'")
+        error = self.error(graphql_proved.format, "{ a(b: ) }")
+        self.assertEqual(str(error), "1:8: expected a value, found `)`")
 
     def test_message_longer_than_the_first_buffer(self):
         self.assertIn("a" * 2000, self.error(graphql_proved.check_query, "a" * 2000).message)
@@ -188,18 +209,20 @@ class Arguments(unittest.TestCase):
                     with self.assertRaisesRegex(TypeError, "source must be str or bytes"):
                         call(source)
 
-    def test_indents(self):
-        self.assertEqual(graphql_proved.format_query("{ a }", indent=0), "{\na\n}\n")
+    def test_numbers(self):
+        self.assertEqual(graphql_proved.format("{ a }", indent=0), "{\na\n}\n")
+        self.assertEqual(graphql_proved.normalize_query("{ a }", indent=0), "{\na\n}\n")
         out_of_range = [(it, ValueError) for it in (-1, 2**32, 2**32 + 2)]
         of_a_wrong_type = [(it, TypeError) for it in (2.0, "2", True, None)]
-        for call in FORMATS:
-            for indent, kind in out_of_range + of_a_wrong_type:
-                with self.subTest(call=call, indent=indent), self.assertRaises(kind) as caught:
-                    call("scalar S", indent=indent)
+        options = [(call, "indent") for call in FORMATS] + [(graphql_proved.format, "width")]
+        for call, option in options:
+            for number, kind in out_of_range + of_a_wrong_type:
+                with self.subTest(call=call, option=option, number=number), self.assertRaises(kind) as caught:
+                    call("scalar S", **{option: number})
                 self.assertNotIsInstance(caught.exception, DocumentError)
 
     def test_multiline(self):
-        for call in FORMATS:
+        for call in NORMALIZES:
             for multiline in (1, "yes", None):
                 with self.subTest(call=call, multiline=multiline):
                     with self.assertRaisesRegex(TypeError, "multiline must be bool"):
@@ -213,7 +236,7 @@ class Arguments(unittest.TestCase):
 
 class Package(unittest.TestCase):
     def test_session_of_the_docstring(self):
-        self.assertEqual(doctest.testmod(graphql_proved), (0, 2))
+        self.assertEqual(doctest.testmod(graphql_proved), (0, 4))
 
     def test_names(self):
         for name in graphql_proved.__all__:

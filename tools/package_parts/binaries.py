@@ -18,9 +18,8 @@ class Binaries:
     programs: dict[str, bytes]
     archive: bytes
     shared: bytes
-    # The earliest version of glibc that each needs, as two numbers.
-    glibc_of_all: tuple[int, int]
-    glibc_of_shared: tuple[int, int]
+    # The earliest version of glibc that all of them work with, as two numbers.
+    glibc: tuple[int, int]
 
 
 def run(*words):
@@ -65,6 +64,6 @@ def made(version):
         for name in names.PROGRAMS:
             run("strip", "-o", room / name, built.program(name))
             programs[name] = room / name
-        of_all = max(map(glibc_of, [shared, *programs.values()]))
+        glibc = max(map(glibc_of, [shared, *programs.values()]))
         contents = {name: file.read_bytes() for name, file in programs.items()}
-        return Binaries(contents, archive.read_bytes(), shared.read_bytes(), of_all, glibc_of(shared))
+        return Binaries(contents, archive.read_bytes(), shared.read_bytes(), glibc)

@@ -102,6 +102,11 @@ def documents(version, source, layout):
     return tree
 
 
+def readme(version):
+    """The first file to read in a tar."""
+    return File((names.PACKAGING / "README").read_text(encoding="utf-8").replace("@VERSION@", version).encode())
+
+
 def crate(version, source):
     """The Rust crate without its archive, and without the tests that need the repository."""
     top = names.TOP / "examples/rust"

@@ -1,4 +1,6 @@
-"""A wheel for Python, made without a build tool: an archive of the package, its library, and their metadata."""
+"""A wheel for Python, made without a build tool: an archive of the package, its library, the programs, and metadata.
+
+An installation puts the programs on the path, as the console commands of the package."""
 import base64
 import hashlib
 import io
@@ -11,11 +13,10 @@ from .trees import File
 PYTHON = ">=3.8"
 
 
-def tags(binaries):
-    """The platform tags, by the glibc that the library needs. 2.17 is the earliest glibc that a tag here names."""
-    minor = max(17, binaries.glibc_of_shared[1])
-    platforms = [f"manylinux_2_{minor}_x86_64"]
-    return ["manylinux2014_x86_64", *platforms] if minor == 17 else platforms
+def tag(binaries):
+    """The platform tag, by the glibc that all files need. 2.5 is the earliest glibc that has a tag of this form."""
+    major, minor = max((2, 5), binaries.glibc)
+    return f"manylinux_{major}_{minor}_x86_64"
 
 
 def package():
@@ -42,10 +43,9 @@ def metadata(version, source):
     ])
 
 
-def described(platforms):
-    kinds = [f"Tag: py3-none-{platform}" for platform in platforms]
-    lines = ["Wheel-Version: 1.0", f"Generator: {names.PROJECT}", "Root-Is-Purelib: false", *kinds]
-    return "".join(f"{line}\n" for line in lines)
+def described(platform):
+    lines = ["Wheel-Version: 1.0", f"Generator: {names.PROJECT}", "Root-Is-Purelib: false"]
+    return "".join(f"{line}\n" for line in [*lines, f"Tag: py3-none-{platform}"])
 
 
 def recorded(tree, path):
@@ -71,9 +71,12 @@ def zipped(tree, time):
 
 def made(version, source, binaries):
     """The name of the wheel, and its bytes."""
-    platforms, folder = tags(binaries), f"{names.LIBRARY}-{version}.dist-info"
+    platform, name = tag(binaries), f"{names.LIBRARY}-{version}"
     tree = {**package(), f"{names.LIBRARY}/lib{names.LIBRARY}.so": File(binaries.shared, 0o755)}
-    tree[f"{folder}/METADATA"] = File(metadata(version, source).encode())
-    tree[f"{folder}/WHEEL"] = File(described(platforms).encode())
-    tree[f"{folder}/RECORD"] = File(recorded(tree, f"{folder}/RECORD").encode())
-    return f"{names.LIBRARY}-{version}-py3-none-{'.'.join(platforms)}.whl", zipped(tree, source.time)
+    for program, data in binaries.programs.items():
+        tree[f"{name}.data/scripts/{program}"] = File(data, 0o755)
+    tree[f"{name}.dist-info/METADATA"] = File(metadata(version, source).encode())
+    tree[f"{name}.dist-info/WHEEL"] = File(described(platform).encode())
+    record = f"{name}.dist-info/RECORD"
+    tree[record] = File(recorded(tree, record).encode())
+    return f"{name}-py3-none-{platform}.whl", zipped(tree, source.time)

@@ -1,7 +1,8 @@
-"""Why a call fails."""
+"""Why a call fails, and what is wrong with a source."""
 
 from __future__ import annotations
 
+import dataclasses
 import enum
 
 
@@ -15,7 +16,7 @@ class Status(enum.IntEnum):
     UNEXPECTED_END = 3
     """No document ends here."""
     TOO_DEEP = 4
-    """More than 50 brackets are open."""
+    """Too many brackets are open: more than 1000 for `format`, and more than 50 for the other calls."""
     INT_OUT_OF_RANGE = 5
     """An integer is outside the range of 64 bits."""
     MALFORMED_FLOAT = 6
@@ -40,6 +41,30 @@ class Status(enum.IntEnum):
     """The source is not valid UTF-8."""
 
 
+@dataclasses.dataclass(frozen=True)
+class Diagnostic:
+    """An error of a source, as `check` finds it. The wrong part is `source[offset:end_offset]`.
+
+    `str` of a diagnostic is `LINE:COLUMN: MESSAGE`, as `gqlfmt --message-format short` writes it after the path.
+    """
+
+    line: int
+    """The line, from 1. LF, CR LF and CR each end a line."""
+    column: int
+    """The column in characters, from 1. A tab is one character."""
+    offset: int
+    """Where the wrong part begins in the source: a number of characters of a `str`, or of bytes of `bytes`."""
+    end_offset: int
+    """Where it ends. It is `offset` at the end of the source."""
+    message: str
+    """What was expected and what was found, and often a hint."""
+    expected: tuple[str, ...]
+    """All that can come there, in words. It is empty if the error is not one of syntax."""
+
+    def __str__(self) -> str:
+        return f"{self.line}:{self.column}: {self.message}"
+
+
 class DocumentError(ValueError):
     """A call failed, because its source is no valid document, or cannot be formatted.
 
@@ -47,22 +72,35 @@ class DocumentError(ValueError):
         status: the cause. It is a plain `int` if a later version of the library added the cause.
         message: the message of the library, with its line ends. It is empty if there was no memory for it.
         line: the line of the error, from 1. `None` if the error has no position.
-        column: the column of the error in characters, from 1. A tab between tokens counts as 8. `None` as for `line`.
+        column: the column of the error in characters, from 1. A tab is one character. `None` as for `line`.
+        offset: where the wrong part begins in the source: a number of characters of a `str`, or of bytes of `bytes`.
+            `None` as for `line`.
+        end_offset: where it ends. `None` as for `line`.
 
-    `str` of an error is one text for people: the message without its last line end. It names the position.
+    `str` of an error is one text for people: the message without its last line end. It names the position once.
     """
 
-    def __init__(self, status: int, message: str, line: int | None = None, column: int | None = None) -> None:
-        super().__init__(status, message, line, column)
+    def __init__(
+        self,
+        status: int,
+        message: str,
+        line: int | None = None,
+        column: int | None = None,
+        offset: int | None = None,
+        end_offset: int | None = None,
+    ) -> None:
+        super().__init__(status, message, line, column, offset, end_offset)
         self.status: Status | int = status if status not in _NUMBERS else Status(status)
         self.message = message
         self.line = line
         self.column = column
+        self.offset = offset
+        self.end_offset = end_offset
 
     def __str__(self) -> str:
         text = self.message[:-1] if self.message.endswith("\n") else self.message
-        place = f" at {self.line}:{self.column}"
-        return text if self.line is None or place in text else text + place
+        place = f"{self.line}:{self.column}"
+        return text if self.line is None or f" at {place}\n" in text else f"{place}: {text}"
 
 
 _NUMBERS = frozenset(Status)

@@ -6,13 +6,17 @@ import ctypes
 import pathlib
 from typing import Callable
 
-from ._errors import DocumentError
+from ._errors import DocumentError, Status
+from ._place import end_of, offset_of, place_of
+from ._source import Source
 
 VERSION = "0.1.0"
 NAME = "libgraphql_proved.so"
 OK, BUFFER_TOO_SHORT = 0, 16
 # As in the header: enough for most messages.
 MESSAGE_CAPACITY = 256
+# Enough for the errors of most sources as JSON.
+CHECK_CAPACITY = 4096
 
 
 class Result(ctypes.Structure):
@@ -69,13 +73,18 @@ def json_capacity(length: int) -> int:
     return 16 * length + 4 * MESSAGE_CAPACITY
 
 
+def check_capacity(length: int) -> int:
+    """Enough for the errors of most sources as JSON."""
+    return CHECK_CAPACITY
+
+
 class Function:
     """A function of the library. Its pointers are never null: ctypes passes the addresses of objects."""
 
     def __init__(
         self,
         name: str,
-        *options: type[ctypes.c_uint32 | ctypes.c_bool],
+        *options: type[ctypes.c_uint32 | ctypes.c_size_t | ctypes.c_bool],
         capacity: Callable[[int], int] = format_capacity,
     ) -> None:
         self._capacity = capacity
@@ -83,34 +92,46 @@ class Function:
         self._call.restype = Result
         self._call.argtypes = [ctypes.c_char_p, ctypes.c_size_t, *options, ctypes.c_char_p, ctypes.c_size_t]
 
-    def check(self, source: bytes) -> None:
+    def check(self, source: Source) -> None:
         """Calls a function that only checks."""
         self._result(source, MESSAGE_CAPACITY, ())
 
-    def offset(self, source: bytes) -> int:
-        """Calls a function that finds an offset, and returns the offset."""
-        return self._result(source, MESSAGE_CAPACITY, ())[0].offset
+    def offset(self, source: Source) -> int:
+        """Calls a function that finds an offset, and returns the offset in bytes."""
+        result, _ = self._result(source, MESSAGE_CAPACITY, ())
+        return int(result.offset)
 
-    def output(self, source: bytes, *options: int) -> bytes:
+    def output(self, source: Source, *options: int) -> bytes:
         """Calls a function that writes an output, and returns the output."""
-        result, out = self._result(source, self._capacity(len(source)), options)
+        result, out = self._result(source, self._capacity(len(source.bytes)), options)
         return ctypes.string_at(out, result.output_length)
 
     def _result(
-        self, source: bytes, capacity: int, options: tuple[int, ...]
+        self, source: Source, capacity: int, options: tuple[int, ...]
     ) -> tuple[Result, ctypes.Array[ctypes.c_char]]:
+        given = source.bytes
         while True:
             out = ctypes.create_string_buffer(capacity)
-            result = self._call(source, len(source), *options, out, capacity)
+            result = self._call(given, len(given), *options, out, capacity)
             if result.status == OK:
                 return result, out
             if result.status != BUFFER_TOO_SHORT and result.message_length <= capacity:
-                raise _error(result, ctypes.string_at(out, result.message_length))
+                raise _error(source, result, ctypes.string_at(out, result.message_length))
             # The output or the message is longer than the buffer. One of the lengths is 0.
             capacity = result.output_length + result.message_length
 
 
-def _error(result: Result, message: bytes) -> DocumentError:
+def _error(source: Source, result: Result, message: bytes) -> DocumentError:
     """The error of a result, with its message."""
-    place = (result.line, result.column) if result.line else (None, None)
-    return DocumentError(result.status, message.decode("utf-8", "replace"), *place)
+    said = message.decode("utf-8", "replace")
+    if not result.line:
+        return DocumentError(result.status, said)
+    text = source.text()
+    if result.offset:
+        begin = len(source.bytes[: result.offset].decode())
+    else:
+        begin = offset_of(text, result.line, result.column)
+    line, column = place_of(text, begin)
+    end = begin + 1 if result.status == Status.BAD_TOKEN else end_of(text, begin)
+    said = said.replace(f" at {result.line}:{result.column}\n", f" at {line}:{column}\n", 1)
+    return DocumentError(result.status, said, line, column, source.index(text[:begin]), source.index(text[:end]))

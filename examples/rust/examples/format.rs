@@ -1,7 +1,7 @@
-//! A filter: reads a query document from standard input, and writes it formatted to standard output. The status is 1
+//! A filter: reads a document from standard input, and writes it formatted to standard output. The status is 1
 //! if the document is rejected, and 2 if a read or a write fails.
 
-use graphql_proved::{bytes, Style};
+use graphql_proved::{bytes, Options};
 use std::io::{self, Read, Write};
 use std::process::ExitCode;
 
@@ -18,7 +18,7 @@ fn write_all(output: &str) -> io::Result<()> {
 }
 
 fn formatted() -> io::Result<ExitCode> {
-    match bytes::format_query(&read_all()?, Style::default()) {
+    match bytes::format(&read_all()?, Options::default()) {
         Ok(output) => write_all(&output).map(|()| ExitCode::SUCCESS),
         Err(error) => {
             eprintln!("{error}");

@@ -2,11 +2,13 @@
 //!
 //! A round makes each call once, one after another, or the only one that the last word names.
 
-use graphql_proved::{check_query, check_schema, format_query, format_schema, minify, Error, Style};
+use graphql_proved::{
+    check_query, check_schema, format, minify, normalize_query, normalize_schema, Error, Options, Style,
+};
 use std::time::{Duration, Instant};
 use std::{env, fs, process};
 
-const USAGE: &str = "usage: measure query|schema FILE ROUNDS [check|format|minify]";
+const USAGE: &str = "usage: measure query|schema FILE ROUNDS [check|format|normalize|minify]";
 
 /// A call for a text, whose output is dropped.
 type Call = fn(&str) -> Result<(), Error>;
@@ -15,18 +17,21 @@ type Call = fn(&str) -> Result<(), Error>;
 type Named = (&'static str, Call);
 
 /// The calls for a language.
-fn calls(language: &str) -> Option<[Named; 3]> {
-    let of_both: Call = |text| minify(text).map(drop);
+fn calls(language: &str) -> Option<[Named; 4]> {
+    let format: Named = ("format", |text| format(text, Options::default()).map(drop));
+    let minify: Named = ("minify", |text| minify(text).map(drop));
     match language {
         "query" => Some([
             ("check", check_query),
-            ("format", |text| format_query(text, Style::default()).map(drop)),
-            ("minify", of_both),
+            format,
+            ("normalize", |text| normalize_query(text, Style::default()).map(drop)),
+            minify,
         ]),
         "schema" => Some([
             ("check", check_schema),
-            ("format", |text| format_schema(text, Style::default()).map(drop)),
-            ("minify", of_both),
+            format,
+            ("normalize", |text| normalize_schema(text, Style::default()).map(drop)),
+            minify,
         ]),
         _ => None,
     }

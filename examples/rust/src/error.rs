@@ -1,6 +1,7 @@
 //! Why a call fails.
 
 use std::fmt;
+use std::ops::Range;
 
 /// The cause of an error. `graphql_proved.h` has the same names.
 #[derive(Clone, Copy, Debug, PartialEq, Eq, Hash)]
@@ -12,7 +13,7 @@ pub enum Cause {
     UnexpectedToken,
     /// No document ends here.
     UnexpectedEnd,
-    /// More than 50 brackets are open.
+    /// Too many brackets are open: more than 1000 for `format`, and more than 50 for the other calls.
     TooDeep,
     /// An integer is outside the range of `i64`.
     IntOutOfRange,
@@ -69,7 +70,7 @@ impl From<u32> for Cause {
 pub struct Position {
     /// The line, from 1.
     pub line: usize,
-    /// The column in characters, from 1. A tab between tokens counts as 8.
+    /// The column in characters, from 1. A tab is one character.
     pub column: usize,
 }
 
@@ -92,6 +93,8 @@ pub struct Error {
     pub cause: Cause,
     /// The position, if the error has one.
     pub position: Option<Position>,
+    /// The bytes of the source that are wrong, if the error has a position.
+    pub span: Option<Range<usize>>,
     /// The message of the library, with its line ends. It is empty if there was no memory for it.
     pub message: String,
 }
@@ -100,7 +103,7 @@ impl fmt::Display for Error {
     fn fmt(&self, f: &mut fmt::Formatter<'_>) -> fmt::Result {
         let text = self.message.strip_suffix('\n').unwrap_or(&self.message);
         match self.position {
-            Some(position) if !text.contains(&format!(" at {position}")) => write!(f, "{text} at {position}"),
+            Some(position) if !text.contains(&format!(" at {position}\n")) => write!(f, "{position}: {text}"),
             _ => f.write_str(text),
         }
     }

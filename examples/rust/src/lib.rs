@@ -1,22 +1,44 @@
-//! Formats, minifies and checks GraphQL documents, and writes them as JSON, with code that is proved correct.
+//! Formats and checks GraphQL documents, and writes them as JSON, with code that is proved correct.
 //!
 //! This crate links a static library. No function here is `unsafe`, and threads can call at once.
 //!
 //! ```
-//! use graphql_proved::{format_query, Style};
+//! use graphql_proved::{check, format, Options};
 //!
-//! let formatted = format_query("{ hero(id: 1) { name } }", Style::default())?;
-//! assert_eq!(formatted, "{\n  hero(id: 1) {\n    name\n  }\n}\n");
+//! let formatted = format("{ hero(id: 1) { name } } # One.", Options::default())?;
+//! assert_eq!(formatted, "{\n  hero(id: 1) {\n    name\n  }\n} # One.\n");
+//! assert_eq!(check("{ hero }")?, []);
 //! # Ok::<(), graphql_proved::Error>(())
 //! ```
 
+mod diagnostic;
 mod error;
+mod json;
+mod place;
 mod raw;
+mod width;
 
+pub use diagnostic::Diagnostic;
 pub use error::{Cause, Error, Position};
 use std::fmt;
 
-/// How a document is formatted.
+/// How [`format`] formats a document.
+#[derive(Clone, Copy, Debug, PartialEq, Eq, Hash)]
+pub struct Options {
+    /// The spaces for each level. A large number makes a large output.
+    pub indent: u32,
+    /// The columns that a line can take, where that is possible.
+    pub width: u32,
+}
+
+impl Default for Options {
+    /// Two spaces for each level, and lines of 80 columns.
+    fn default() -> Self {
+        Options { indent: 2, width: 80 }
+    }
+}
+
+/// How [`normalize_query`] and [`normalize_schema`] format a document.
 #[derive(Clone, Copy, Debug, PartialEq, Eq, Hash)]
 pub struct Style {
     /// The spaces for each level. A large number makes a large output.
@@ -59,30 +81,55 @@ pub fn library_version() -> Version {
     raw::version()
 }
 
-/// Formats a query document. The output has no comments.
+/// Formats a document with its comments, as `gqlfmt` does. It can have operations and types.
+///
+/// # Errors
+///
+/// If the source is not valid, nests too deep or is too long, or an allocation fails.
+///
+/// ```
+/// use graphql_proved::{format, Options};
+///
+/// let options = Options { indent: 4, ..Options::default() };
+/// assert_eq!(format("enum E { A # first\n B }", options)?, "enum E {\n    A # first\n    B\n}\n");
+/// # Ok::<(), graphql_proved::Error>(())
+/// ```
+pub fn format(source: &str, options: Options) -> Result<String, Error> {
+    raw::format(source.as_bytes(), options)
+}
+
+/// Lists the errors of a source: the first, and those of the definitions after it. It is not validated against a schema.
+///
+/// # Errors
+///
+/// If the source is too long, or an allocation fails.
+pub fn check(source: &str) -> Result<Vec<Diagnostic>, Error> {
+    raw::check(source.as_bytes())
+}
+
+/// Formats a query document without its comments.
 ///
 /// # Errors
 ///
 /// If the source is not a valid query document, the output would be too wide, or an allocation fails.
-pub fn format_query(source: &str, style: Style) -> Result<String, Error> {
-    raw::format_query(source.as_bytes(), style)
+///
+/// ```
+/// use graphql_proved::{normalize_query, Style};
+///
+/// assert_eq!(normalize_query("{ a # none\n}", Style::default())?, "{\n  a\n}\n");
+/// # Ok::<(), graphql_proved::Error>(())
+/// ```
+pub fn normalize_query(source: &str, style: Style) -> Result<String, Error> {
+    raw::normalize_query(source.as_bytes(), style)
 }
 
-/// Formats a schema document. The output has no comments.
+/// Formats a schema document without its comments.
 ///
 /// # Errors
 ///
 /// If the source is not a valid schema document, the output would be too wide, or an allocation fails.
-///
-/// ```
-/// use graphql_proved::{format_schema, Style};
-///
-/// let style = Style { indent: 4, ..Style::default() };
-/// assert_eq!(format_schema("enum E { A B }", style)?, "enum E {\n    A\n    B\n}\n");
-/// # Ok::<(), graphql_proved::Error>(())
-/// ```
-pub fn format_schema(source: &str, style: Style) -> Result<String, Error> {
-    raw::format_schema(source.as_bytes(), style)
+pub fn normalize_schema(source: &str, style: Style) -> Result<String, Error> {
+    raw::normalize_schema(source.as_bytes(), style)
 }
 
 /// Writes the tokens of a source. Only two that are not punctuators, and a number and `...`, have a space between them.
@@ -132,6 +179,21 @@ pub fn check_schema(source: &str) -> Result<(), Error> {
     raw::check_schema(source.as_bytes())
 }
 
+/// Writes a query document or a schema document as JSON, in the form of the AST of graphql-js.
+///
+/// # Errors
+///
+/// If the source is neither a query document nor a schema document, or an allocation fails.
+///
+/// ```
+/// let json = graphql_proved::to_json("scalar A")?;
+/// assert!(json.starts_with(r#"{"kind":"Document","definitions":[{"kind":"ScalarTypeDefinition","#));
+/// # Ok::<(), graphql_proved::Error>(())
+/// ```
+pub fn to_json(source: &str) -> Result<String, Error> {
+    raw::to_json(source.as_bytes())
+}
+
 /// Writes a query document as JSON, in the form of the AST of graphql-js.
 ///
 /// # Errors
@@ -168,7 +230,8 @@ pub fn schema_to_json(source: &str) -> Result<String, Error> {
 pub mod bytes {
     use crate::{raw, Error};
 
-    pub use raw::{check_query, check_schema, format_query, format_schema, minify, query_to_json, schema_to_json};
+    pub use raw::{check, check_query, check_schema, format, minify, normalize_query, normalize_schema};
+    pub use raw::{query_to_json, schema_to_json, to_json};
 
     /// As [`crate::first_definition`]. The rest can be any bytes.
     ///

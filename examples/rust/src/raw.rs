@@ -1,7 +1,8 @@
 //! The functions of the library, as `graphql_proved.h` declares them, without `unsafe`.
 
-use crate::error::{Error, Position};
-use crate::{Style, Version};
+use crate::diagnostic::Diagnostic;
+use crate::error::{Cause, Error, Position};
+use crate::{json, place, Options, Style, Version};
 use std::mem::MaybeUninit;
 
 /// `graphql_proved_result` of `graphql_proved.h`.
@@ -21,6 +22,9 @@ const BUFFER_TOO_SHORT: u32 = 16;
 /// As in the header: enough for most messages.
 const MESSAGE_CAPACITY: usize = 256;
 
+/// Enough for the errors of most sources as JSON.
+const CHECK_CAPACITY: usize = 4096;
+
 /// Declares the functions of the library that take a source and a buffer, by their names in C.
 macro_rules! library {
     ($(fn $name:ident($($argument:ident: $type:ty),*);)*) => {
@@ -39,8 +43,10 @@ macro_rules! library {
 }
 
 library! {
-    fn format_query(text: *const u8, length: usize, indent: u32, multiline: bool, out: *mut u8, capacity: usize);
-    fn format_schema(text: *const u8, length: usize, indent: u32, multiline: bool, out: *mut u8, capacity: usize);
+    fn format_source(text: *const u8, length: usize, indent: u32, width: u32, out: *mut u8, capacity: usize);
+    fn check(text: *const u8, length: usize, max_errors: usize, out: *mut u8, capacity: usize);
+    fn normalize_query(text: *const u8, length: usize, indent: u32, multiline: bool, out: *mut u8, capacity: usize);
+    fn normalize_schema(text: *const u8, length: usize, indent: u32, multiline: bool, out: *mut u8, capacity: usize);
     fn minify(text: *const u8, length: usize, out: *mut u8, capacity: usize);
     fn first_definition(text: *const u8, length: usize, out: *mut u8, capacity: usize);
     fn check_query(text: *const u8, length: usize, out: *mut u8, capacity: usize);
@@ -79,15 +85,29 @@ fn called(source: &[u8], capacity: usize, call: Call<'_>) -> Result<(CallResult,
         if result.status == OK {
             return Ok((result, buffer));
         }
-        return Err(error(&result, &buffer));
+        return Err(error(source, &result, &buffer));
     }
 }
 
+/// The source, or what comes before its first byte that is not UTF-8.
+fn text_of(source: &[u8]) -> &str {
+    std::str::from_utf8(source).unwrap_or_else(|error| text_of(&source[..error.valid_up_to()]))
+}
+
 /// The error of a result, with its message.
-fn error(result: &CallResult, message: &[u8]) -> Error {
-    let &CallResult { status, line, column, .. } = result;
-    let position = (line > 0).then_some(Position { line, column });
-    Error { cause: status.into(), position, message: String::from_utf8_lossy(message).into_owned() }
+fn error(source: &[u8], result: &CallResult, message: &[u8]) -> Error {
+    let &CallResult { status, offset, line, column, .. } = result;
+    let (cause, message) = (Cause::from(status), String::from_utf8_lossy(message).into_owned());
+    if line == 0 {
+        return Error { cause, position: None, span: None, message };
+    }
+    let (text, counted) = (text_of(source), Position { line, column });
+    let start = if offset > 0 { offset } else { place::offset_of(text, counted) };
+    let (front, rest) = text.split_at(start);
+    let position = place::position_after(front);
+    let end = start + place::error_len(rest, cause != Cause::BadToken);
+    let message = message.replacen(&format!(" at {counted}\n"), &format!(" at {position}\n"), 1);
+    Error { cause, position: Some(position), span: Some(start..end), message }
 }
 
 /// As in the header: enough for most formatted documents, and for every minified output.
@@ -115,19 +135,38 @@ pub fn version() -> Version {
     unsafe { c::version() }
 }
 
-/// Formats a query document, as [`crate::format_query`].
-pub fn format_query(source: &[u8], style: Style) -> Result<String, Error> {
-    let Style { indent, multiline } = style;
+/// Formats a document with its comments, as [`crate::format`].
+pub fn format(source: &[u8], options: Options) -> Result<String, Error> {
+    let Options { indent, width } = options;
     output(source, format_capacity(source.len()), &|text, out| unsafe {
-        c::format_query(text.as_ptr(), text.len(), indent, multiline, address(out), out.len())
+        c::format_source(text.as_ptr(), text.len(), indent, width, address(out), out.len())
     })
 }
 
-/// Formats a schema document, as [`crate::format_schema`].
-pub fn format_schema(source: &[u8], style: Style) -> Result<String, Error> {
+/// Lists the errors of a source, as [`crate::check`].
+pub fn check(source: &[u8]) -> Result<Vec<Diagnostic>, Error> {
+    let found = output(source, CHECK_CAPACITY, &|text, out| unsafe {
+        c::check(text.as_ptr(), text.len(), 0, address(out), out.len())
+    })?;
+    let errors = json::value_of(&found).expect("the library writes JSON").into_list();
+    // The source is UTF-8, since the call succeeded.
+    let source = String::from_utf8_lossy(source);
+    Ok(errors.into_iter().map(|error| Diagnostic::new(&source, error)).collect())
+}
+
+/// Formats a query document without its comments, as [`crate::normalize_query`].
+pub fn normalize_query(source: &[u8], style: Style) -> Result<String, Error> {
     let Style { indent, multiline } = style;
     output(source, format_capacity(source.len()), &|text, out| unsafe {
-        c::format_schema(text.as_ptr(), text.len(), indent, multiline, address(out), out.len())
+        c::normalize_query(text.as_ptr(), text.len(), indent, multiline, address(out), out.len())
+    })
+}
+
+/// Formats a schema document without its comments, as [`crate::normalize_schema`].
+pub fn normalize_schema(source: &[u8], style: Style) -> Result<String, Error> {
+    let Style { indent, multiline } = style;
+    output(source, format_capacity(source.len()), &|text, out| unsafe {
+        c::normalize_schema(text.as_ptr(), text.len(), indent, multiline, address(out), out.len())
     })
 }
 
@@ -155,6 +194,21 @@ pub fn check_query(source: &[u8]) -> Result<(), Error> {
 pub fn check_schema(source: &[u8]) -> Result<(), Error> {
     let call: Call<'_> = &|text, out| unsafe { c::check_schema(text.as_ptr(), text.len(), address(out), out.len()) };
     called(source, MESSAGE_CAPACITY, call).map(drop)
+}
+
+/// Writes a document as JSON, as [`crate::to_json`].
+pub fn to_json(source: &[u8]) -> Result<String, Error> {
+    let of_query = match query_to_json(source) {
+        Err(error) if error.position.is_some() => error,
+        result => return result,
+    };
+    let of_schema = match schema_to_json(source) {
+        Err(error) if error.position.is_some() => error,
+        result => return result,
+    };
+    // The error by the specification says what was expected. There is none if only this call rejects the source.
+    format(source, Options::default())?;
+    Err(if of_query.position > of_schema.position { of_query } else { of_schema })
 }
 
 /// Writes a query document as JSON, as [`crate::query_to_json`].

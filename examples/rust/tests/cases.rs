@@ -1,8 +1,10 @@
 //! The recorded cases of this repository, through the library for C, and those of a folder that the variable
 //! `GRAPHQL_PROVED_VECTORS` names.
 
-use graphql_proved::{bytes, check_query, check_schema, first_definition, format_query, format_schema, minify};
-use graphql_proved::{query_to_json, schema_to_json, Cause, Error, Position, Style};
+use graphql_proved::{bytes, check, check_query, check_schema, first_definition, format, minify, normalize_query};
+use graphql_proved::{
+    normalize_schema, query_to_json, schema_to_json, to_json, Cause, Error, Options, Position, Style,
+};
 use std::path::{Path, PathBuf};
 use std::{env, fs};
 
@@ -45,20 +47,31 @@ impl<'a> Rest<'a> {
     }
 }
 
+/// A message as it is compared. The recorded messages count tabs, CR, byte order marks and comments in another way than
+/// this crate. If a text has one of these, the first line of a message, which has the position, is left out.
+fn recorded<'a>(text: &str, message: &'a str) -> &'a str {
+    match message.split_once('\n') {
+        Some((_, rest)) if text.contains(['\t', '\r', '\u{FEFF}', '#']) => rest,
+        _ => message,
+    }
+}
+
 /// Whether a case is for these calls. If it is, their results must be the wanted ones.
 fn replayed(word: &str, indent: u32, text: &str, wanted: &Wanted) -> bool {
     let multiline = word.ends_with("lines");
     let style = Style { indent, multiline };
     let (answer, checked) = match word {
-        "query" | "lines" => (format_query(text, style), Some(check_query(text))),
-        "schema" | "schema-lines" => (format_schema(text, style), Some(check_schema(text))),
+        "query" | "lines" => (normalize_query(text, style), Some(check_query(text))),
+        "schema" | "schema-lines" => (normalize_schema(text, style), Some(check_schema(text))),
         "minify" => (minify(text), None),
         _ => return false,
     };
     match (wanted, &answer) {
         (Wanted::Output(output), Ok(found)) => assert_eq!(found, output, "of {word}: {text}"),
         (Wanted::Accepted, Ok(_)) | (Wanted::Refused(None), Err(_)) => {}
-        (Wanted::Refused(Some(message)), Err(error)) => assert_eq!(&error.message, message, "of {word}: {text}"),
+        (Wanted::Refused(Some(message)), Err(error)) => {
+            assert_eq!(recorded(text, &error.message), recorded(text, message), "of {word}: {text}")
+        }
         (wanted, answer) => panic!("of {word}: {text}\nwanted {wanted:?}, found {answer:?}"),
     }
     // A check returns the error of the formatting call, except if the output would be too wide.
@@ -121,7 +134,7 @@ fn hero_is_laid_out() {
         "query Hero($id: ID! = \"1\") @cached {\n  h: hero(id: $id) {\n    name\n",
         "    ... on Droid {\n      parts(first: 2)\n    }\n    ...More\n  }\n}\n",
     );
-    assert_eq!(format_query(text, Style::default()).as_deref(), Ok(lines));
+    assert_eq!(normalize_query(text, Style::default()).as_deref(), Ok(lines));
     let shortest = "query Hero($id:ID!=\"1\")@cached{h:hero(id:$id){name...on Droid{parts(first:2)}...More}}";
     assert_eq!(minify(text).as_deref(), Ok(shortest));
 }
@@ -129,19 +142,28 @@ fn hero_is_laid_out() {
 #[test]
 fn documents_are_written_as_json() {
     let query = concat!(
-        r#"{"kind":"Document","definitions":[{"kind":"OperationDefinition","loc":{"line":1,"column":1},"#,
+        r#"{"kind":"Document","definitions":[{"kind":"OperationDefinition","position":{"line":1,"column":1},"#,
         r#""operation":"query","variableDefinitions":[],"directives":[],"#,
-        r#""selectionSet":{"kind":"SelectionSet","loc":{"line":1,"column":1,"endLine":1,"endColumn":14},"#,
-        r#""selections":[{"kind":"Field","loc":{"line":1,"column":3},"name":{"kind":"Name","value":"a"},"#,
-        r#""arguments":[{"kind":"Argument","name":{"kind":"Name","value":"b"},"#,
+        r#""selectionSet":{"kind":"SelectionSet","position":{"line":1,"column":1},"#,
+        r#""endPosition":{"line":1,"column":14},"selections":[{"kind":"Field","position":{"line":1,"column":3},"#,
+        r#""name":{"kind":"Name","value":"a"},"arguments":[{"kind":"Argument","name":{"kind":"Name","value":"b"},"#,
         r#""value":{"kind":"StringValue","value":"\"é"}}],"directives":[]}]}}]}"#,
     );
     assert_eq!(query_to_json(r#"{ a(b:"\"é") }"#).as_deref(), Ok(query));
     let schema = concat!(
-        r#"{"kind":"Document","definitions":[{"kind":"ScalarTypeDefinition","loc":{"line":2,"column":1},"#,
+        r#"{"kind":"Document","definitions":[{"kind":"ScalarTypeDefinition","position":{"line":2,"column":1},"#,
         r#""name":{"kind":"Name","value":"A"},"directives":[]}]}"#,
     );
     assert_eq!(schema_to_json("\nscalar A").as_deref(), Ok(schema));
+    assert_eq!((to_json(r#"{ a(b:"\"é") }"#).as_deref(), to_json("\nscalar A").as_deref()), (Ok(query), Ok(schema)));
+    // Of several errors, `to_json` returns that by the specification, and else that of the language that goes further.
+    let error = to_json("type A { b }").expect_err("no document");
+    assert_eq!(error.message, "expected `(` or `:`, found `}`");
+    let error = to_json("{ a(b:\t99999999999999999999) }").expect_err("too large");
+    assert_eq!(
+        (error.cause, error.position, error.span),
+        (Cause::IntOutOfRange, Some(Position { line: 1, column: 8 }), Some(7..27))
+    );
     let error = query_to_json("scalar A").expect_err("no query");
     assert_eq!(Some(&error), check_query("scalar A").as_ref().err());
     assert_eq!(bytes::schema_to_json(b"scalar \xff").expect_err("not UTF-8").cause, Cause::NotUtf8);
@@ -149,26 +171,31 @@ fn documents_are_written_as_json() {
 
 #[test]
 fn refusals_have_places() {
-    let error = format_query("{ hero(id: 99999999999999999999) }", Style::default()).expect_err("too large");
+    let error = normalize_query("{ hero(id: 99999999999999999999) }", Style::default()).expect_err("too large");
     assert_eq!((error.cause, error.position), (Cause::IntOutOfRange, Some(Position { line: 1, column: 12 })));
     assert_eq!(error.message, "query parse error: Parse error at 1:12\nnumber too large\n");
     assert_eq!(error.to_string(), "query parse error: Parse error at 1:12\nnumber too large");
+    let source = "{\r\n\té(a: \"\t\") { # 日\r b(c:\t-99999999999999999999) } }";
+    let error = check_query(&source.replace('é', "e")).expect_err("too large");
+    assert_eq!(error.position, Some(Position { line: 3, column: 7 }));
+    assert_eq!(&source.replace('é', "e")[error.span.expect("a span")], "-99999999999999999999");
+    assert!(error.message.starts_with("query parse error: Parse error at 3:7\n"));
     let error = check_schema("\nschema { query: A query: B }").expect_err("twice");
     assert_eq!((error.cause, error.position), (Cause::DuplicateOperation, Some(Position { line: 2, column: 1 })));
     let error = minify("{ a ; }").expect_err("no token");
     assert_eq!((error.cause, error.position), (Cause::BadToken, Some(Position { line: 1, column: 5 })));
     // The message of the library does not name the position.
-    assert_eq!(error.to_string(), "query minify error: Unexpected unexpected character ';' at 1:5");
+    assert_eq!(error.to_string(), "1:5: query minify error: Unexpected unexpected character ';'");
     let error = check_query("").expect_err("empty");
     assert_eq!(error.cause, Cause::UnexpectedEnd);
 }
 
 #[test]
 fn failures_have_no_place() {
-    let error = format_query("{ a { b } }", Style { indent: u32::MAX, multiline: false }).expect_err("too wide");
+    let error = normalize_query("{ a { b } }", Style { indent: u32::MAX, multiline: false }).expect_err("too wide");
     assert_eq!((error.cause, error.position), (Cause::TooWide, None));
     assert_eq!(error.message, "format error: indentation too wide");
-    let error = bytes::format_query(b"{ a \xff }", Style::default()).expect_err("not UTF-8");
+    let error = bytes::normalize_query(b"{ a \xff }", Style::default()).expect_err("not UTF-8");
     assert_eq!((error.cause, error.position), (Cause::NotUtf8, None));
 }
 
@@ -177,8 +204,10 @@ fn bytes_are_taken_as_strings_are() {
     let style = Style { indent: 3, multiline: true };
     for text in ["{ a(b: 1) }", "enum E { A }", "{ \"é\" }", "{ a ; }", ""] {
         let source = text.as_bytes();
-        assert_eq!(bytes::format_query(source, style), format_query(text, style));
-        assert_eq!(bytes::format_schema(source, style), format_schema(text, style));
+        assert_eq!(bytes::normalize_query(source, style), normalize_query(text, style));
+        assert_eq!(bytes::normalize_schema(source, style), normalize_schema(text, style));
+        assert_eq!(bytes::format(source, Options::default()), format(text, Options::default()));
+        assert_eq!(bytes::check(source), check(text));
         assert_eq!(bytes::minify(source), minify(text));
         assert_eq!(bytes::check_query(source), check_query(text));
         assert_eq!(bytes::check_schema(source), check_schema(text));
@@ -196,7 +225,7 @@ fn bytes_are_taken_as_strings_are() {
 fn a_status_of_a_later_version_is_kept() {
     assert_eq!(Cause::from(15), Cause::NotUtf8);
     assert_eq!(Cause::from(99), Cause::Other(99));
-    let error = Error { cause: Cause::Other(99), position: None, message: "new\n".to_owned() };
+    let error = Error { cause: Cause::Other(99), position: None, span: None, message: "new\n".to_owned() };
     assert_eq!(error.to_string(), "new");
     assert_eq!(Position { line: 3, column: 14 }.to_string(), "3:14");
 }
@@ -208,7 +237,7 @@ fn outputs_longer_than_the_first_buffer_are_whole() {
         text.push_str("{a ");
     }
     text.push_str(&"}".repeat(40));
-    let wide = format_query(&text, Style { indent: 100, multiline: false }).expect("a document");
+    let wide = normalize_query(&text, Style { indent: 100, multiline: false }).expect("a document");
     assert!(wide.len() > 100 * (820 + 780));
     assert_eq!(minify(&wide).as_deref(), Ok(text.replace(' ', "").as_str()));
     // A message with a long token in it.
