@@ -6,3 +6,4 @@ mod callers;
 mod messages;
 mod page;
 mod values;
+mod walks;

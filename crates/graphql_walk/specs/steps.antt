@@ -1,0 +1,2 @@
+pub mod Counted
+unfoldable pub use Counted.*
